@@ -1,0 +1,3 @@
+pub mod Values
+pub mod Levels
+pub mod Bytes
