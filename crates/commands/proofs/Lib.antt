@@ -1,5 +1,12 @@
+pub mod Cut
 pub mod Decode
+pub mod Decoded
+pub mod Digits
+pub mod Encoded
 pub mod Fills
+pub mod Judged
+pub mod Made
 pub mod Numbers
+pub mod Pieces
 pub mod Places
 pub mod Writes

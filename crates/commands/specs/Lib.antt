@@ -1,3 +1,4 @@
 pub mod Values
 pub mod Levels
 pub mod Bytes
+pub mod Laws

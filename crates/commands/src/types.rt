@@ -78,6 +78,12 @@ impl MemberId {
             Err(Refusal::Member(id))
         }
     }
+
+    pub fn get(self) -> u8
+        ensures { λ r. ⌜ r ≡ self .id ⌝ }
+    {
+        self.id
+    }
 }
 
 pub(crate) fn channel_of(channel: u64) -> Result<u16, Refusal>
@@ -175,5 +181,35 @@ impl Command {
                 action,
             })
         }
+    }
+
+    pub fn view(&self) -> u32
+        ensures { λ r. ⌜ r ≡ now (self .entry) .view ⌝ }
+    {
+        self.view
+    }
+
+    pub fn member(&self) -> MemberId
+        ensures { λ r. ⌜ r ≡ now (self .entry) .member ⌝ }
+    {
+        self.member
+    }
+
+    pub fn number(&self) -> u32
+        ensures { λ r. ⌜ r ≡ now (self .entry) .number ⌝ }
+    {
+        self.number
+    }
+
+    pub fn stamp(&self) -> u32
+        ensures { λ r. ⌜ r ≡ now (self .entry) .stamp ⌝ }
+    {
+        self.stamp
+    }
+
+    pub fn action(&self) -> Action
+        ensures { λ r. ⌜ r ≡ now (self .entry) .action ⌝ }
+    {
+        self.action
     }
 }
