@@ -74,11 +74,11 @@ bytes-of-levels [] = tt
 bytes-of-levels (v ∷ vs) = (omega arith, (omega arith, bytes-of-levels vs))
 
 bytes-of-action : (a : Action) → ValidAction a → Bytes (actionBytes a)
-bytes-of-action (Set c l) v = (omega arith, all-append (λ x. x < 2 ^ 8) (bytes2 c) (bytes2 l) (bytes-of2 c) (bytes-of2 l))
-bytes-of-action (Move c s) v = (omega arith, all-append (λ x. x < 2 ^ 8) (bytes2 c) (bytes4 (raised s)) (bytes-of2 c) (bytes-of4 (raised s)))
+bytes-of-action (Set c l) v = (omega arith, all-append (λ x. x < 2 ^ 8) (bytes2 (c .index)) (bytes2 l) (bytes-of2 (c .index)) (bytes-of2 l))
+bytes-of-action (Move c s) v = (omega arith, all-append (λ x. x < 2 ^ 8) (bytes2 (c .index)) (bytes4 (raised s)) (bytes-of2 (c .index)) (bytes-of4 (raised s)))
 bytes-of-action (OfScene s) v =
     let few = v .few in
-    (omega arith, all-append (λ x. x < 2 ^ 8) (bytes2 (s .first)) (s .count ∷ joined bytes2 (take (s .count) (s .levels))) (bytes-of2 (s .first)) (omega arith, bytes-of-levels (take (s .count) (s .levels))))
+    (omega arith, all-append (λ x. x < 2 ^ 8) (bytes2 (s .first .index)) (s .count ∷ joined bytes2 (take (s .count) (s .levels))) (bytes-of2 (s .first .index)) (omega arith, bytes-of-levels (take (s .count) (s .levels))))
 
 size-of-action : (a : Action) → ValidAction a → (5 ≤ length (actionBytes a)) × (length (actionBytes a) ≤ 68)
 size-of-action (Set c l) v = (omega arith, omega arith)

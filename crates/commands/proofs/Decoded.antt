@@ -13,7 +13,7 @@ use Rattle.std.proofs.shelf.Tests.{true≢false, cases-lt, cases-bool, lt-ltb, 
 use Rattle.std.specs.declared.result.Result.{Result}
 use Rattle.std.specs.declared.result.Result.the-variants.{Ok, Err}
 use Rattle.commands.specs.declared.types.MemberId.{MemberId}
-use Rattle.commands.specs.declared.types.Scene.{Scene}
+use Rattle.commands.specs.declared.types.Channel.{Channel}
 use Rattle.commands.specs.declared.types.Action.{Action}
 use Rattle.commands.specs.declared.types.Action.the-variants.{Set, Move, Scene as OfScene}
 use Rattle.commands.specs.declared.types.Command.{Command}
@@ -78,30 +78,30 @@ module _ (b : List ℕ) (bytes : Bytes b) where
       let channel : bytes2 c ≡ piece b 14 2 = ap bytes2 (sym same) ∙ piece2 b bytes 14 (omega arith) in
       ap (λ x. x ++ bytes2 c) kind ∙ ap (λ x. piece b 13 1 ++ x) channel ∙ piece-join b 13 1 2 14 3 refl refl
 
-  set-read : (c : ℕ) → 18 ≤ length b → getD b 13 0 ≡ 1 → channelOr (at2 b 14) ≡ Ok c → ReadAction b 1 (Set c (at2 b 16))
+  set-read : (c : Channel) → 18 ≤ length b → getD b 13 0 ≡ 1 → channelOr (at2 b 14) ≡ Ok c → ReadAction b 1 (Set c (at2 b 16))
   set-read c h k e =
       let ch = channel-is (at2 b 14) c e in
       let same = ch .1 in
       record {
-        valid = (omega (arith, ch .0), two-below 16);
-        bytes = ap (λ x. x ++ bytes2 (at2 b 16)) (head-read 1 c (omega arith) k same) ∙ ap (λ x. piece b 13 3 ++ x) (piece2 b bytes 16 h) ∙ piece-join b 13 3 2 16 5 refl refl;
+        valid = (omega (arith, ch .0, same), two-below 16);
+        bytes = ap (λ x. x ++ bytes2 (at2 b 16)) (head-read 1 (c .index) (omega arith) k same) ∙ ap (λ x. piece b 13 3 ++ x) (piece2 b bytes 16 h) ∙ piece-join b 13 3 2 16 5 refl refl;
       }
 
-  move-read : (c : ℕ) → 20 ≤ length b → getD b 13 0 ≡ 2 → channelOr (at2 b 14) ≡ Ok c → ReadAction b 2 (Move c (lowered (at4 b 16)))
+  move-read : (c : Channel) → 20 ≤ length b → getD b 13 0 ≡ 2 → channelOr (at2 b 14) ≡ Ok c → ReadAction b 2 (Move c (lowered (at4 b 16)))
   move-read c h k e =
       let ch = channel-is (at2 b 14) c e in
       let same = ch .1 in
       let step : bytes4 (raised (lowered (at4 b 16))) ≡ piece b 16 4 = ap bytes4 (raised-lowered (at4 b 16) (four-below 16)) ∙ piece4 b bytes 16 h in
       record {
-        valid = (omega (arith, ch .0), lowered-fits (at4 b 16) (four-below 16));
-        bytes = ap (λ x. x ++ bytes4 (raised (lowered (at4 b 16)))) (head-read 2 c (omega arith) k same) ∙ ap (λ x. piece b 13 3 ++ x) step ∙ piece-join b 13 3 4 16 7 refl refl;
+        valid = (omega (arith, ch .0, same), lowered-fits (at4 b 16) (four-below 16));
+        bytes = ap (λ x. x ++ bytes4 (raised (lowered (at4 b 16)))) (head-read 2 (c .index) (omega arith) k same) ∙ ap (λ x. piece b 13 3 ++ x) step ∙ piece-join b 13 3 4 16 7 refl refl;
       }
 
   words-read : (i n : ℕ) → All (λ l. l < 2 ^ 16) (listAt b i n)
   words-read i zero = tt
   words-read i (suc n) = (two-below i, words-read (i + 2) n)
 
-  scene-read : (c n : ℕ) → 17 + 2 * getD b 16 0 ≤ length b → getD b 13 0 ≡ 3 → channelOr (at2 b 14) ≡ Ok c → countOr (getD b 16 0) ≡ Ok n →
+  scene-read : (c : Channel) (n : ℕ) → 17 + 2 * getD b 16 0 ≤ length b → getD b 13 0 ≡ 3 → channelOr (at2 b 14) ≡ Ok c → countOr (getD b 16 0) ≡ Ok n →
       ReadAction b 3 (OfScene (record { first = c; count = n; levels = padded (listAt b 17 n) }))
   scene-read c n h k e f =
       let ch = channel-is (at2 b 14) c e in
@@ -112,9 +112,9 @@ module _ (b : List ℕ) (bytes : Bytes b) where
       let count : n ∷ [] ≡ piece b 16 1 = ap (λ x. x ∷ []) (sym many) ∙ piece1 b bytes 16 (omega arith) in
       let body : joined bytes2 (take n (padded (listAt b 17 n))) ≡ piece b 17 (2 * n) = ap (joined bytes2) levels ∙ pieces b bytes n 17 (2 * n) (omega arith) refl in
       record {
-        valid = padded-valid c (listAt b 17 n) n (length-listAt b 17 n) (omega (arith, ch .0)) (omega (arith, co .0)) (omega (arith, co .1)) (words-read 17 n);
+        valid = padded-valid c (listAt b 17 n) n (length-listAt b 17 n) (omega (arith, ch .0, same)) (omega (arith, co .0)) (omega (arith, co .1)) (words-read 17 n);
         bytes =
-            ap (λ x. x ++ (n ∷ joined bytes2 (take n (padded (listAt b 17 n))))) (head-read 3 c (omega arith) k same)
+            ap (λ x. x ++ (n ∷ joined bytes2 (take n (padded (listAt b 17 n))))) (head-read 3 (c .index) (omega arith) k same)
             ∙ ap (λ x. piece b 13 3 ++ (n ∷ x)) body ∙ ap (λ x. piece b 13 3 ++ (x ++ piece b 17 (2 * n))) count
             ∙ ap (λ x. piece b 13 3 ++ x) (piece-join b 16 1 (2 * n) 17 (1 + 2 * n) refl refl) ∙ piece-join b 13 3 (1 + 2 * n) 16 (17 + 2 * getD b 16 0 - 13) refl (omega arith);
       }
@@ -125,11 +125,11 @@ module _ (b : List ℕ) (bytes : Bytes b) where
       let t = then-is (channelOr (at2 b 14)) _ e in
       by-kind (t .0) (getD b 13 0) refl known h (t .1) (t .2)
     where
-      rest : ℕ → ℕ → Result Action Refusal
+      rest : ℕ → Channel → Result Action Refusal
       rest k c = cond (eqb k 1) (Ok (Set c (at2 b 16))) (cond (eqb k 2) (Ok (Move c (lowered (at4 b 16))))
           (andThen (countOr (getD b 16 0)) (λ n. Ok (OfScene (record { first = c; count = n; levels = padded (listAt b 17 n) })))))
 
-      by-kind : (c k : ℕ) → getD b 13 0 ≡ k → (eqb k 0 || ltb 3 k) ≡ false → sizeAs k b ≤ length b → channelOr (at2 b 14) ≡ Ok c → rest k c ≡ Ok a → ReadAction b k a
+      by-kind : (c : Channel) (k : ℕ) → getD b 13 0 ≡ k → (eqb k 0 || ltb 3 k) ≡ false → sizeAs k b ≤ length b → channelOr (at2 b 14) ≡ Ok c → rest k c ≡ Ok a → ReadAction b k a
       by-kind c zero i known h ch r = absurd (true≢false known)
       by-kind c (suc zero) i known h ch r = let same : Set c (at2 b 16) ≡ a = cc in subst (ReadAction b 1) same (set-read c h i ch)
       by-kind c (suc (suc zero)) i known h ch r = let same : Move c (lowered (at4 b 16)) ≡ a = cc in subst (ReadAction b 2) same (move-read c h i ch)

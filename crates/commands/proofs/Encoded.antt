@@ -76,23 +76,23 @@ places-back s v =
 
 action-back : (h : Command) (a : Action) (rest : List ℕ) → ValidAction a → actionAs (kindOf a) (headBytes h ++ (actionBytes a ++ rest)) ≡ Ok a
 action-back h (Set c l) rest v =
-    let channel : c / 256 % 256 * 256 + c % 256 ≡ c = number2 c (omega arith) in
+    let channel : c .index / 256 % 256 * 256 + c .index % 256 ≡ c .index = number2 (c .index) (omega (arith, v .0)) in
     let level = number2 l (v .1) in
-    then-ok _ _ (ap channelOr channel ∙ channel-ok c (v .0)) (ap (λ x. Ok (Set c x)) level)
+    then-ok _ _ (ap channelOr channel ∙ channel-ok (c .index) (v .0)) (ap (λ x. Ok (Set c x)) level)
 action-back h (Move c s) rest v =
-    let channel : c / 256 % 256 * 256 + c % 256 ≡ c = number2 c (omega arith) in
+    let channel : c .index / 256 % 256 * 256 + c .index % 256 ≡ c .index = number2 (c .index) (omega (arith, v .0)) in
     let step = ap lowered (number4 (raised s) (raised-fits s (v .1))) ∙ lowered-raised s (v .1) in
-    then-ok _ _ (ap channelOr channel ∙ channel-ok c (v .0)) (ap (λ x. Ok (Move c x)) step)
+    then-ok _ _ (ap channelOr channel ∙ channel-ok (c .index) (v .0)) (ap (λ x. Ok (Move c x)) step)
 action-back h (OfScene s) rest v =
     let places = v .places in
     let few = v .few in
-    let channel : s .first / 256 % 256 * 256 + s .first % 256 ≡ s .first = let l = v .first in number2 (s .first) (omega arith) in
+    let channel : s .first .index / 256 % 256 * 256 + s .first .index % 256 ≡ s .first .index = let l = v .first in number2 (s .first .index) (omega arith) in
     let vs : List ℕ = take (s .count) (s .levels) in
     let n : length vs ≡ s .count = length-take-le (s .count) (s .levels) (omega arith) in
-    let front : List ℕ = headBytes h ++ (3 ∷ (bytes2 (s .first) ++ (s .count ∷ []))) in
+    let front : List ℕ = headBytes h ++ (3 ∷ (bytes2 (s .first .index) ++ (s .count ∷ []))) in
     let levels : listAt (front ++ (joined bytes2 vs ++ rest)) 17 (s .count) ≡ vs = ap (λ k. listAt (front ++ (joined bytes2 vs ++ rest)) 17 k) (sym n) ∙ levels-back vs front rest 17 (all-take (λ l. l < 2 ^ 16) (s .count) (s .levels) (v .words)) refl in
     let same = ap padded levels ∙ places-back s v in
-    then-ok _ _ (ap channelOr channel ∙ channel-ok (s .first) (v .first))
+    then-ok _ _ (ap channelOr channel ∙ channel-ok (s .first .index) (v .first))
     (then-ok _ _ (count-ok (s .count) (v .some) (v .few)) (ap (λ ps. Ok (OfScene (record { first = s .first; count = s .count; levels = ps }))) same))
 
 same-values : (m : MemberId) (a : Action) {v w n k s t : ℕ} → v ≡ w → n ≡ k → s ≡ t → commandOr v m n s a ≡ commandOr w m k t a

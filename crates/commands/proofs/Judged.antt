@@ -9,16 +9,17 @@ use Rattle.std.proofs.shelf.Tests.{le-leb, leb-true, ne-eqb, eqb-false, and-fro
 use Rattle.std.specs.declared.result.Result.{Result}
 use Rattle.std.specs.declared.result.Result.the-variants.{Ok, Err}
 use Rattle.commands.specs.declared.types.MemberId.{MemberId}
+use Rattle.commands.specs.declared.types.Channel.{Channel}
 use Rattle.commands.specs.declared.types.Action.{Action}
 use Rattle.commands.specs.declared.types.Command.{Command}
 use Rattle.commands.specs.declared.types.Refusal.{Refusal}
-use Rattle.commands.specs.declared.types.Refusal.the-variants.{Member, Number, Stamp, Channel, Level, LevelCount}
+use Rattle.commands.specs.declared.types.Refusal.the-variants.{Member, Number, Stamp, Channel as OffChannel, Level, LevelCount}
 use Rattle.commands.specs.Values.{andThen, memberOr, channelOr, levelOr, countOr, commandOr}
 
 pub member-ok : (m : ℕ) → m ≤ 63 → memberOr m ≡ Ok (record { id = m })
 member-ok m h = cond-true _ _ _ (le-leb m 63 h)
 
-pub channel-ok : (c : ℕ) → c ≤ 511 → channelOr c ≡ Ok c
+pub channel-ok : (c : ℕ) → c ≤ 511 → channelOr c ≡ Ok (record { index = c })
 channel-ok c h = cond-true _ _ _ (le-leb c 511 h)
 
 pub count-ok : (n : ℕ) → 1 ≤ n → n ≤ 32 → countOr n ≡ Ok n
@@ -40,8 +41,8 @@ other false r y e h = (refl, h)
 pub member-is : (m : ℕ) (x : MemberId) → memberOr m ≡ Ok x → (m ≤ 63) × (x .id ≡ m)
 member-is m x h = let p = passed (leb m 63) _ x (Member m) h in (leb-true m 63 (p .0), sym (ap (λ y. y .id) (p .1)))
 
-pub channel-is : (c d : ℕ) → channelOr c ≡ Ok d → (c ≤ 511) × (c ≡ d)
-channel-is c d h = let p = passed (leb c 511) c d (Channel c) h in (leb-true c 511 (p .0), p .1)
+pub channel-is : (c : ℕ) (d : Channel) → channelOr c ≡ Ok d → (c ≤ 511) × (c ≡ d .index)
+channel-is c d h = let p = passed (leb c 511) _ d (OffChannel c) h in (leb-true c 511 (p .0), ap (λ x. x .index) (p .1))
 
 pub level-is : (c d : ℕ) → levelOr c ≡ Ok d → (c ≤ 65535) × (c ≡ d)
 level-is c d h = let p = passed (leb c 65535) c d (Level c) h in (leb-true c 65535 (p .0), p .1)

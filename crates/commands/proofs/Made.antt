@@ -14,6 +14,7 @@ use Rattle.std.specs.declared.option.Option.{Option}
 use Rattle.std.specs.declared.option.Option.the-variants.{Some, None}
 use Rattle.std.specs.declared.result.Result.{Result}
 use Rattle.std.specs.declared.result.Result.the-variants.{Ok, Err}
+use Rattle.commands.specs.declared.types.Channel.{Channel}
 use Rattle.commands.specs.declared.types.Action.{Action}
 use Rattle.commands.specs.declared.types.Action.the-variants.{Set, Move, Scene as OfScene}
 use Rattle.commands.specs.declared.types.Refusal.{Refusal}
@@ -26,7 +27,7 @@ zeros-below zero = tt
 zeros-below (suc k) = (omega arith, zeros-below k)
 
 -- a scene of up to 32 levels of 16 bits, with zeros behind them
-pub padded-valid : (c : ℕ) (vs : List ℕ) (n : ℕ) → length vs ≡ n → c ≤ 511 → 1 ≤ n → n ≤ 32 → All (λ l. l < 2 ^ 16) vs → ValidScene (record { first = c; count = n; levels = padded vs })
+pub padded-valid : (c : Channel) (vs : List ℕ) (n : ℕ) → length vs ≡ n → c .index ≤ 511 → 1 ≤ n → n ≤ 32 → All (λ l. l < 2 ^ 16) vs → ValidScene (record { first = c; count = n; levels = padded vs })
 padded-valid c vs n long h l m w =
     let zeros : List ℕ = replicate (32 - length vs) 0 in
     let z : length {A = ℕ} (replicate (32 - length vs) 0) ≡ 32 - length vs = length-replicate (32 - length vs) 0 in

@@ -16,7 +16,7 @@ use Rattle.commands.specs.declared.types.Refusal.{Refusal}
 use Rattle.commands.specs.declared.types.Refusal.the-variants.{Kind}
 use Rattle.commands.specs.declared.reader.ReadError.{ReadError}
 use Rattle.commands.specs.declared.reader.ReadError.the-variants.{CutShort, Invalid}
-use Rattle.commands.specs.Values.{andThen, memberOr, channelOr, countOr, commandOr, padded, row}
+use Rattle.commands.specs.Values.{andThen, memberOr, channelOr, countOr, commandOr, padded}
 
 -- two bytes of a number of 16 bits
 abbrev pub bytes2 : ℕ → List ℕ
@@ -33,9 +33,9 @@ raised (negsuc s) = 2147483647 - s
 
 -- the bytes of what a command does, its kind first
 abbrev pub actionBytes : Action → List ℕ
-actionBytes (Set c l) = 1 ∷ (bytes2 c ++ bytes2 l)
-actionBytes (Move c s) = 2 ∷ (bytes2 c ++ bytes4 (raised s))
-actionBytes (OfScene s) = 3 ∷ (bytes2 (s .first) ++ (s .count ∷ joined bytes2 (take (s .count) (s .levels))))
+actionBytes (Set c l) = 1 ∷ (bytes2 (c .index) ++ bytes2 l)
+actionBytes (Move c s) = 2 ∷ (bytes2 (c .index) ++ bytes4 (raised s))
+actionBytes (OfScene s) = 3 ∷ (bytes2 (s .first .index) ++ (s .count ∷ joined bytes2 (take (s .count) (s .levels))))
 
 -- the bytes before the kind
 abbrev pub headBytes : Command → List ℕ
@@ -97,8 +97,3 @@ decode b =
     (cond (eqb (getD b 13 0) 0 || ltb 3 (getD b 13 0)) (Err (Invalid (Kind (getD b 13 0))))
     (cond (ltb (length b) (sizeAs (getD b 13 0) b)) (Err CutShort)
     (readAs (sizeAs (getD b 13 0) b) (commandAt b))))
-
--- why nothing was read, by the table of refusals: form is 1, values are as they are there
-abbrev pub readNumber : ReadError → ℕ
-readNumber CutShort = 1
-readNumber (Invalid e) = row e .0

@@ -19,6 +19,6 @@ filled ls c (v ∷ vs) = filled (set ls c v) (suc c) vs
 
 -- the levels after an action
 abbrev pub applied : Action → List ℕ → List ℕ
-applied (Set c l) ls = set ls c l
-applied (Move c s) ls = set ls c (moved (getD ls c 0) s)
-applied (OfScene s) ls = filled ls (s .first) (take (s .count) (s .levels))
+applied (Set c l) ls = set ls (c .index) l
+applied (Move c s) ls = set ls (c .index) (moved (getD ls (c .index) 0) s)
+applied (OfScene s) ls = filled ls (s .first .index) (take (s .count) (s .levels))

@@ -14,12 +14,13 @@ use Rattle.std.specs.declared.option.Option.the-variants.{Some, None}
 use Rattle.std.specs.declared.result.Result.{Result}
 use Rattle.std.specs.declared.result.Result.the-variants.{Ok, Err}
 use Rattle.commands.specs.declared.types.MemberId.{MemberId}
+use Rattle.commands.specs.declared.types.Channel.{Channel}
 use Rattle.commands.specs.declared.types.Scene.{Scene}
 use Rattle.commands.specs.declared.types.Action.{Action}
 use Rattle.commands.specs.declared.types.Action.the-variants.{Set, Move, Scene as OfScene}
 use Rattle.commands.specs.declared.types.Command.{Command}
 use Rattle.commands.specs.declared.types.Refusal.{Refusal}
-use Rattle.commands.specs.declared.types.Refusal.the-variants.{Member, Number, Stamp, Kind, Channel, Level, LevelCount}
+use Rattle.commands.specs.declared.types.Refusal.the-variants.{Member, Number, Stamp, Kind, Channel as OffChannel, Level, LevelCount}
 
 -- a refusal as the table of refusals has it: its number there, and the value that can't be
 abbrev pub row : Refusal → ℕ × ℕ
@@ -27,7 +28,7 @@ row (Member m) = (2, m)
 row (Number n) = (2, n)
 row (Stamp s) = (2, s)
 row (Kind k) = (2, k)
-row (Channel c) = (2, c)
+row (OffChannel c) = (2, c)
 row (Level l) = (2, l)
 row (LevelCount n) = (2, n)
 
@@ -41,8 +42,8 @@ abbrev pub memberOr : ℕ → Result MemberId Refusal
 memberOr m = cond (leb m 63) (Ok (record { id = m })) (Err (Member m))
 
 -- channels are 0 to 511
-abbrev pub channelOr : ℕ → Result ℕ Refusal
-channelOr c = cond (leb c 511) (Ok c) (Err (Channel c))
+abbrev pub channelOr : ℕ → Result Channel Refusal
+channelOr c = cond (leb c 511) (Ok (record { index = c })) (Err (OffChannel c))
 
 -- levels are 0 to 65,535
 abbrev pub levelOr : ℕ → Result ℕ Refusal
@@ -83,7 +84,7 @@ commandOr v m n s a =
 
 -- a scene that can be: 1 to 32 levels of 16 bits from a channel on, and zeros in the places past them
 pub record ValidScene (s : Scene) : Type 0 where
-  pub first : s .first ≤ 511
+  pub first : s .first .index ≤ 511
   pub some : 1 ≤ s .count
   pub few : s .count ≤ 32
   pub places : length (s .levels) ≡ 32
@@ -92,8 +93,8 @@ pub record ValidScene (s : Scene) : Type 0 where
 
 -- an action that can be
 abbrev pub ValidAction : Action → Type 0
-ValidAction (Set c l) = (c ≤ 511) × (l < 2 ^ 16)
-ValidAction (Move c s) = (c ≤ 511) × SFits w32 s
+ValidAction (Set c l) = (c .index ≤ 511) × (l < 2 ^ 16)
+ValidAction (Move c s) = (c .index ≤ 511) × SFits w32 s
 ValidAction (OfScene s) = ValidScene s
 
 -- a command that can be: of a member 0 to 63, numbered and stamped from 1 on

@@ -3,6 +3,7 @@ ghost use mathlib.Core.Path.{_≡_};
 ghost use lib.ListN.{take};
 ghost use Rattle.commands.specs.Levels.{applied, moved, filled};
 use crate::types::Action;
+use crate::types::Command;
 use crate::types::Scene;
 
 // A level moved by a signed step, stopping at 0 and 65,535.
@@ -21,9 +22,9 @@ fn stepped(level: u16, step: i32) -> u16
 
 // A scene's levels into its channels; those past the last channel are left out.
 fn fill(scene: &Scene, levels: &mut [u16])
-    ensures { λ _. ⌜ now (levels .exit) ≡ filled (now (levels .entry)) (now (scene .entry) .first) (take (now (scene .entry) .count) (now (scene .entry) .levels)) ⌝ }
+    ensures { λ _. ⌜ now (levels .exit) ≡ filled (now (levels .entry)) (now (scene .entry) .first .index) (take (now (scene .entry) .count) (now (scene .entry) .levels)) ⌝ }
 {
-    let first = scene.first as usize;
+    let first = scene.first.index as usize;
     let count = (scene.count as usize).min(32);
     for k in 0..count {
         if first + k < levels.len() {
@@ -32,20 +33,20 @@ fn fill(scene: &Scene, levels: &mut [u16])
     }
 }
 
-impl Action {
-    // The action done to the levels, of which a desk has 512. A channel past the end of `levels` has no place there, and is left out.
+impl Command {
+    // The command done to the levels, of which a desk has 512. A channel past the end of `levels` has no place there, and is left out.
     pub fn apply(&self, levels: &mut [u16])
-        ensures { λ _. ⌜ now (levels .exit) ≡ applied (now (self .entry)) (now (levels .entry)) ⌝ }
+        ensures { λ _. ⌜ now (levels .exit) ≡ applied (now (self .entry) .action) (now (levels .entry)) ⌝ }
     {
-        match self {
+        match &self.action {
             Action::Set { channel, level } => {
-                let at = *channel as usize;
+                let at = channel.index as usize;
                 if at < levels.len() {
                     levels[at] = *level;
                 }
             }
             Action::Move { channel, step } => {
-                let at = *channel as usize;
+                let at = channel.index as usize;
                 if at < levels.len() {
                     levels[at] = stepped(levels[at], *step);
                 }

@@ -3,13 +3,13 @@ ghost use mathlib.Core.Path.{_≡_};
 ghost use Prim.Native.Nat.{_+_, _*_, _≤_};
 ghost use lib.ListN.{length, getD};
 ghost use Rattle.commands.specs.Values.{padded};
-ghost use Rattle.commands.specs.Bytes.{at2, at4, listAt, lowered, sizeAs, actionAs, commandAt, decode, readNumber};
+ghost use Rattle.commands.specs.Bytes.{at2, at4, listAt, lowered, sizeAs, actionAs, commandAt, decode};
 use crate::types::Action;
+use crate::types::Channel;
 use crate::types::Command;
 use crate::types::MemberId;
 use crate::types::Refusal;
 use crate::types::Scene;
-use crate::types::channel_of;
 use crate::types::count_of;
 
 // Why no command was read.
@@ -19,18 +19,6 @@ pub enum ReadError {
     CutShort,
     // all its bytes are there, and a value among them can't be
     Invalid(Refusal),
-}
-
-impl ReadError {
-    // Its number in the table of refusals.
-    pub fn number(self) -> u8
-        ensures { λ r. ⌜ r ≡ readNumber self ⌝ }
-    {
-        match self {
-            ReadError::CutShort => 1,
-            ReadError::Invalid(refusal) => refusal.number(),
-        }
-    }
 }
 
 fn get2(bytes: &[u8], at: usize) -> u16
@@ -87,7 +75,7 @@ fn get_action(kind: u8, bytes: &[u8]) -> Result<Action, Refusal>
     requires { ⌜ sizeAs kind (now bytes) ≤ length (now bytes) ⌝ }
     ensures { λ r. ⌜ r ≡ actionAs kind (now (bytes .entry)) ⌝ }
 {
-    let channel = channel_of(get2(bytes, 14) as u64)?;
+    let channel = Channel::new(get2(bytes, 14) as u64)?;
     match kind {
         1 => Ok(Action::Set {
             channel,

@@ -10,10 +10,16 @@ pub struct MemberId {
     pub(crate) id: u8,
 }
 
+// One channel, 0 to 511.
+#[derive(Clone, Copy)]
+pub struct Channel {
+    pub(crate) index: u16,
+}
+
 // Levels for the channels from `first` on: as many as `count` says, 1 to 32. Those past the count are 0, so that one value has one form.
 #[derive(Clone, Copy)]
 pub struct Scene {
-    pub(crate) first: u16,
+    pub(crate) first: Channel,
     pub(crate) count: u8,
     pub(crate) levels: [u16; 32],
 }
@@ -22,9 +28,9 @@ pub struct Scene {
 #[derive(Clone, Copy)]
 pub enum Action {
     // one channel to one level
-    Set { channel: u16, level: u16 },
+    Set { channel: Channel, level: u16 },
     // one channel by a signed step, stopping at 0 and 65,535
-    Move { channel: u16, step: i32 },
+    Move { channel: Channel, step: i32 },
     // neighbouring channels to levels of their own
     Scene(Scene),
 }
@@ -78,21 +84,19 @@ impl MemberId {
             Err(Refusal::Member(id))
         }
     }
-
-    pub fn get(self) -> u8
-        ensures { λ r. ⌜ r ≡ self .id ⌝ }
-    {
-        self.id
-    }
 }
 
-pub(crate) fn channel_of(channel: u64) -> Result<u16, Refusal>
-    ensures { λ r. ⌜ r ≡ channelOr channel ⌝ }
-{
-    if channel <= 511 {
-        Ok(channel as u16)
-    } else {
-        Err(Refusal::Channel(channel))
+impl Channel {
+    pub(crate) fn new(index: u64) -> Result<Channel, Refusal>
+        ensures { λ r. ⌜ r ≡ channelOr index ⌝ }
+    {
+        if index <= 511 {
+            Ok(Channel {
+                index: index as u16,
+            })
+        } else {
+            Err(Refusal::Channel(index))
+        }
     }
 }
 
@@ -132,7 +136,7 @@ impl Action {
     pub fn set(channel: u64, level: u64) -> Result<Action, Refusal>
         ensures { λ r. ⌜ r ≡ setOr channel level ⌝ }
     {
-        let channel = channel_of(channel)?;
+        let channel = Channel::new(channel)?;
         let level = level_of(level)?;
         Ok(Action::Set { channel, level })
     }
@@ -140,14 +144,14 @@ impl Action {
     pub fn shift(channel: u64, step: i32) -> Result<Action, Refusal>
         ensures { λ r. ⌜ r ≡ moveOr channel step ⌝ }
     {
-        let channel = channel_of(channel)?;
+        let channel = Channel::new(channel)?;
         Ok(Action::Move { channel, step })
     }
 
     pub fn scene(first: u64, levels: &[u64]) -> Result<Action, Refusal>
         ensures { λ r. ⌜ r ≡ sceneOr first (now (levels .entry)) ⌝ }
     {
-        let first = channel_of(first)?;
+        let first = Channel::new(first)?;
         let count = count_of(levels.len() as u64)?;
         let levels = places_of(levels)?;
         Ok(Action::Scene(Scene {
@@ -181,35 +185,5 @@ impl Command {
                 action,
             })
         }
-    }
-
-    pub fn view(&self) -> u32
-        ensures { λ r. ⌜ r ≡ now (self .entry) .view ⌝ }
-    {
-        self.view
-    }
-
-    pub fn member(&self) -> MemberId
-        ensures { λ r. ⌜ r ≡ now (self .entry) .member ⌝ }
-    {
-        self.member
-    }
-
-    pub fn number(&self) -> u32
-        ensures { λ r. ⌜ r ≡ now (self .entry) .number ⌝ }
-    {
-        self.number
-    }
-
-    pub fn stamp(&self) -> u32
-        ensures { λ r. ⌜ r ≡ now (self .entry) .stamp ⌝ }
-    {
-        self.stamp
-    }
-
-    pub fn action(&self) -> Action
-        ensures { λ r. ⌜ r ≡ now (self .entry) .action ⌝ }
-    {
-        self.action
     }
 }

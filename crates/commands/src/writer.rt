@@ -65,17 +65,17 @@ fn put_action(out: &mut [u8], action: &Action)
     match action {
         Action::Set { channel, level } => {
             put1(out, 13, 1);
-            put2(out, 14, *channel);
+            put2(out, 14, channel.index);
             put2(out, 16, *level);
         }
         Action::Move { channel, step } => {
             put1(out, 13, 2);
-            put2(out, 14, *channel);
+            put2(out, 14, channel.index);
             put4(out, 16, raise(*step));
         }
         Action::Scene(scene) => {
             put1(out, 13, 3);
-            put2(out, 14, scene.first);
+            put2(out, 14, scene.first.index);
             put1(out, 16, scene.count);
             put_levels(out, scene);
         }
@@ -95,7 +95,7 @@ fn put_head(out: &mut [u8], command: &Command)
 
 impl Command {
     // How many bytes the command takes, 18 to 81.
-    pub fn size(&self) -> usize
+    fn size(&self) -> usize
         ensures { λ r. ⌜ r ≡ length (encode (now (self .entry))) ⌝ }
     {
         match &self.action {

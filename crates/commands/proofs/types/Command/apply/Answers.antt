@@ -1,6 +1,6 @@
 use borrow.Author.Needs.{needs}
 use Rattle.std.proofs.shelf.Lists.{set-past}
-use Rattle.commands.proofs.types.Action.apply.Needs as need
+use Rattle.commands.proofs.types.Command.apply.Needs as need
 
 pub returns-else-at-levels : need.returns-else-at-levels
 returns-else-at-levels c = search (needs, set-past)
