@@ -94,9 +94,10 @@ fn put_head(out: &mut [u8], command: &Command)
 }
 
 impl Command {
-    // How many bytes the command takes, 18 to 81.
+    // How many bytes the command takes, at most 81.
     fn size(&self) -> usize
-        ensures { λ r. ⌜ r ≡ length (encode (now (self .entry))) ⌝ }
+        ensures bound { λ r. ⌜ r ≤ 81 ⌝ }
+        ensures value { λ r. ⌜ r ≡ length (encode (now (self .entry))) ⌝ }
     {
         match &self.action {
             Action::Set { .. } => 18,
@@ -105,10 +106,11 @@ impl Command {
         }
     }
 
-    // Writes the command's bytes to the front of `out` and says how many; where they don't fit, `out` stays as it was.
+    // Writes the command's bytes to the front of `out` and says how many; where they don't fit, `out` stays as it was. 81 places are always enough.
     pub fn write(&self, out: &mut [u8]) -> Option<usize>
         ensures after { λ _. ⌜ now (out .exit) ≡ cond (fits (encode (now (self .entry))) (now (out .entry))) (over (now (out .entry)) 0 (encode (now (self .entry)))) (now (out .entry)) ⌝ }
         ensures value { λ r. ⌜ r ≡ cond (fits (encode (now (self .entry))) (now (out .entry))) (Some (length (encode (now (self .entry))))) None ⌝ }
+        ensures room { λ _. ⌜ length (encode (now (self .entry))) ≤ 81 ⌝ }
     {
         let size = self.size();
         if out.len() < size {
