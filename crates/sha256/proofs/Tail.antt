@@ -11,7 +11,6 @@ use Rattle.std.proofs.shelf.Lists.{length-append, length-replicate, drop-replic
 use Rattle.sha256.specs.Sha256.{longBytes, zeroBytes, padding}
 
 length-longBytes : (x : ℕ) → length (longBytes x) ≡ 8
-unfolding longBytes
 length-longBytes x = refl
 
 length-padding : (n : ℕ) → length (padding n) ≡ 1 + zeroBytes n + 8

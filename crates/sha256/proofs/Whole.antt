@@ -5,7 +5,7 @@ use mathlib.Core.List.{List, _++_, append-assoc}
 use Prim.Native.Nat.{ℕ, zero, suc, _+_, _-_, _*_, _/_, _%_, _≤_}
 use native.Mathlib.Nat.{add-zero, add-suc}
 use native.Mathlib.Omega.{arith}
-use lib.ListN.{length, take, drop, length-drop}
+use lib.ListN.{length, take, drop, length-take, length-drop}
 use Rattle.std.proofs.shelf.Lists.{length-append, take-append-drop, drop-append-le, take-append-le, drop-drop, drop-at, length-take-le, take-rest}
 use Rattle.sha256.specs.declared.rounds.State.{State}
 use Rattle.sha256.specs.Sha256.{blockAt, hashed}
@@ -42,8 +42,11 @@ hashed-both h p q a (suc b) l =
     rw add-suc (cc)
 
 -- what the code slices off behind the whole blocks
-abbrev cut : List ℕ → List ℕ
+abbrev pub cut : List ℕ → List ℕ
 cut m = take (length m - (length m - length m % 64)) (drop (length m - length m % 64) m)
+
+pub length-cut : (m : List ℕ) → length (cut m) ≡ length m % 64
+length-cut m = simp (length-take, length-drop) (omega arith)
 
 -- a message m is hashed with q behind it: first its whole blocks, then the tail that they leave, with q
 module _ (h : State) (m q : List ℕ) where

@@ -40,7 +40,7 @@ unfoldable pub wordBytes : ℕ → List ℕ
 wordBytes x = x / 2 ^ 24 % 256 ∷ x / 2 ^ 16 % 256 ∷ x / 2 ^ 8 % 256 ∷ x % 256 ∷ []
 
 -- the eight bytes of a 64-bit number
-unfoldable pub longBytes : ℕ → List ℕ
+abbrev pub longBytes : ℕ → List ℕ
 longBytes x =
     x / 2 ^ 56 % 256 ∷ x / 2 ^ 48 % 256 ∷ x / 2 ^ 40 % 256 ∷ x / 2 ^ 32 % 256 ∷
     x / 2 ^ 24 % 256 ∷ x / 2 ^ 16 % 256 ∷ x / 2 ^ 8 % 256 ∷ x % 256 ∷ []

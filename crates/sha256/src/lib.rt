@@ -7,7 +7,6 @@ mod word;
 
 ghost use mathlib.Core.Path.{_≡_};
 ghost use Rattle.sha256.specs.Sha256.{sha256};
-use output::to_bytes;
 use padding::finish;
 use rounds::absorb;
 use rounds::initial;
@@ -16,9 +15,8 @@ use rounds::initial;
 pub fn digest(bytes: &[u8]) -> [u8; 32]
     ensures { λ r. ⌜ r ≡ sha256 (now (bytes .entry)) ⌝ }
 {
-    let n = bytes.len();
     let s = absorb(initial(), bytes);
-    to_bytes(finish(s, &bytes[n - n % 64..n], n))
+    finish(s, bytes)
 }
 
 #[cfg(test)]

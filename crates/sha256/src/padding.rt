@@ -1,9 +1,10 @@
 // The end of a message: the bytes behind its last whole block, padded to one block or two.
 ghost use mathlib.Core.Path.{_≡_};
 ghost use mathlib.Core.List.{_∷_, _++_};
-ghost use Prim.Native.Nat.{ℕ, _+_, _-_, _/_, _%_, _<_};
+ghost use Prim.Native.Nat.{ℕ, _+_, _-_, _*_, _/_, _%_, _^_, _<_};
 ghost use lib.ListN.{length, replicate};
-ghost use Rattle.sha256.specs.Sha256.{zeroBytes, LeastZeros, padding, hashed};
+ghost use Rattle.sha256.specs.Sha256.{zeroBytes, LeastZeros, longBytes, padding, initialHash, hashed, sha256};
+use crate::output::to_bytes;
 use crate::rounds::State;
 use crate::rounds::absorb;
 
@@ -28,6 +29,13 @@ fn marked(tail: &[u8]) -> [u8; 128]
     buf
 }
 
+// The length of a message of `total` bytes, in bits, as the padding ends with it.
+fn length_bytes(total: usize) -> [u8; 8]
+    ensures { λ r. ⌜ r ≡ longBytes ((total * 8) % 2 ^ 64) ⌝ }
+{
+    (total as u64).wrapping_mul(8).to_be_bytes()
+}
+
 // The tail with its padding, of a message of `total` bytes, in front of zeros.
 fn padded(tail: &[u8], total: usize) -> [u8; 128]
     requires { ⌜ length (now tail) ≡ total % 64 ⌝ }
@@ -35,17 +43,18 @@ fn padded(tail: &[u8], total: usize) -> [u8; 128]
 {
     let mut buf = marked(tail);
     let end = padded_len(tail.len());
-    let bits = (total as u64).wrapping_mul(8);
-    buf[end - 8..end].copy_from_slice(&bits.to_be_bytes());
+    buf[end - 8..end].copy_from_slice(&length_bytes(total));
     buf
 }
 
-// The hash value after the padded tail of a message of `total` bytes.
-pub(crate) fn finish(s: State, tail: &[u8], total: usize) -> State
-    requires { ⌜ length (now tail) ≡ total % 64 ⌝ }
-    ensures { λ r. ⌜ r ≡ hashed s (now (tail .entry) ++ padding total) (length (now (tail .entry) ++ padding total) / 64) ⌝ }
+// The digest of `bytes`, where `s` is the hash value after its whole blocks.
+pub(crate) fn finish(s: State, bytes: &[u8]) -> [u8; 32]
+    requires { ⌜ s ≡ hashed initialHash (now bytes) (length (now bytes) / 64) ⌝ }
+    ensures { λ r. ⌜ r ≡ sha256 (now (bytes .entry)) ⌝ }
 {
-    let buf = padded(tail, total);
+    let n = bytes.len();
+    let tail = &bytes[n - n % 64..n];
+    let buf = padded(tail, n);
     let end = padded_len(tail.len());
-    absorb(s, &buf[0..end])
+    to_bytes(absorb(s, &buf[0..end]))
 }

@@ -1,0 +1,15 @@
+use mathlib.Core.Path.{_≡_, refl, ap, sym, _∙_}
+use mathlib.Core.List.{_++_}
+use lib.Chars.{codes}
+use Rattle.std.specs.Of.Vec.{vec-items}
+use Rattle.std.proofs.shelf.Parts.{pushed}
+use Rattle.text.specs.Hex.{hexOf}
+use Rattle.shows.specs.Texts.{around}
+use Rattle.shows.proofs.Chains.{behind}
+use Rattle.shows.proofs.show.push_record.Needs as need
+
+pub returns : need.returns
+returns c =
+    let r = c .args .done .now in
+    behind (vec-items (c .args .out .now)) (around (codes ", done ") (r .count) (codes ", digest ")) (hexOf (r .digest)) (c .in-Continue-push-around .ensures tt)
+    (pushed (hexOf (r .digest)) refl (c .in-Continue-push-hex .was tt) (c .push-hex .ensures))

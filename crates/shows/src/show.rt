@@ -1,0 +1,273 @@
+// The desks of a show, and what a line does to them.
+ghost use mathlib.Core.Path.{_≡_};
+ghost use mathlib.Core.Bool.{cond};
+ghost use mathlib.Core.List.{[], _++_};
+ghost use Prim.Native.Nat.{_<_};
+ghost use lib.ListN.{getD};
+ghost use Rattle.std.specs.Of.Vec.{vec-items};
+ghost use Rattle.std.specs.Vec.{made};
+ghost use Rattle.shows.specs.Texts.{placeText, recordText, levelText, levelsText, bookText, showText};
+ghost use Rattle.shows.specs.Shows.{actionOr, firstOther, circleAnswer, isNothing, DesksGiven, entered, Called, OfDesk, SettledAs, Carried, asksShow, deskLines, Answered};
+use crate::answers::Answer;
+use crate::answers::Why;
+use crate::answers::push_around;
+use commands::types::Action;
+use commands::types::MemberId;
+use commands::types::Refusal;
+use history::Record;
+use requests::asked;
+use sha256::digest;
+use stage::Stage;
+use std::alloc::AllocError;
+use std::alloc::Global;
+use text::hexadecimal::push_hex;
+use text::numbers::push_number;
+
+// The one desk that plays, by its number.
+#[derive(Drop)]
+pub struct Show {
+    desk: u64,
+    stage: Stage,
+}
+
+// The action that was asked for, judged by its values.
+fn action_of(asked: &asked::Action) -> Result<Action, Refusal>
+    ensures { λ r. ⌜ r ≡ actionOr (now (asked .entry)) ⌝ }
+{
+    match asked {
+        asked::Action::Set { channel, level } => Action::set(*channel, *level),
+        asked::Action::Move { channel, step } => Action::shift(*channel, *step),
+        asked::Action::Scene { channel, levels } => Action::scene(*channel, levels),
+    }
+}
+
+// One desk comes into the show, in no circle.
+fn desks(show: &mut Option<Show>, desks: &[u64], heap: Global) -> Result<Answer, AllocError>
+    ensures { λ r. ⌜ made r (λ a. DesksGiven (now (show .entry)) (now (desks .entry)) (now (show .exit)) a) ⌝ }
+{
+    if show.is_some() {
+        return Ok(Answer::Cannot(Why::DesksAreGiven));
+    }
+    let [desk] = desks else {
+        return Ok(Answer::Cannot(Why::OneDeskOnly));
+    };
+    let Ok(member) = MemberId::new(*desk) else {
+        return Ok(Answer::Cannot(Why::NoSuchDesk));
+    };
+    let stage = Stage::new(heap, member)?;
+    *show = Some(Show { desk: *desk, stage });
+    Ok(Answer::Nothing)
+}
+
+// The first of some desks that isn't the one in the show.
+fn first_other(desk: u64, desks: &[u64]) -> Option<u64>
+    ensures { λ r. ⌜ r ≡ firstOther desk (now (desks .entry)) ⌝ }
+{
+    for d in desks {
+        if *d != desk {
+            return Some(*d);
+        }
+    }
+    None
+}
+
+// Where a desk stands.
+fn push_place(out: &mut Vec<u8>, inside: bool) -> Result<(), AllocError>
+    ensures { λ r. ⌜ made r (λ _. vec-items (now (out .exit)) ≡ vec-items (now (out .entry)) ++ placeText inside) ⌝ }
+{
+    if inside {
+        out.extend_from_slice(b"in 0")?;
+    } else {
+        out.extend_from_slice(b"in none")?;
+    }
+    Ok(())
+}
+
+// Count and digest.
+fn push_record(out: &mut Vec<u8>, done: &Record, heap: Global) -> Result<(), AllocError>
+    ensures { λ r. ⌜ made r (λ _. vec-items (now (out .exit)) ≡ vec-items (now (out .entry)) ++ recordText (now (done .entry))) ⌝ }
+{
+    push_around(out, b", done ", done.count, b", digest ", heap)?;
+    push_hex(out, &done.digest)?;
+    Ok(())
+}
+
+// ` C=L` for a level that isn't 0.
+fn push_level(out: &mut Vec<u8>, channel: u64, level: u16, heap: Global) -> Result<(), AllocError>
+    ensures { λ r. ⌜ made r (λ _. vec-items (now (out .exit)) ≡ vec-items (now (out .entry)) ++ levelText channel level) ⌝ }
+{
+    if level != 0 {
+        push_around(out, b" ", channel, b"=", heap)?;
+        push_number(out, level as u64, heap)?;
+    }
+    Ok(())
+}
+
+fn level_of(stage: &Stage, channel: u64) -> u16
+    requires { ⌜ channel < 512 ⌝ }
+    ensures { λ r. ⌜ r ≡ getD (vec-items (now (stage .entry) .levels)) channel 0 ⌝ }
+{
+    match stage.level(channel) {
+        Ok(level) => level,
+        Err(_) => unreachable(),
+    }
+}
+
+// The levels that aren't 0, by channel.
+fn push_levels(out: &mut Vec<u8>, stage: &Stage, heap: Global) -> Result<(), AllocError>
+    ensures { λ r. ⌜ made r (λ _. vec-items (now (out .exit)) ≡ vec-items (now (out .entry)) ++ levelsText 512 (vec-items (now (stage .entry) .levels))) ⌝ }
+{
+    for channel in 0..512 {
+        push_level(out, channel, level_of(stage, channel), heap)?;
+    }
+    Ok(())
+}
+
+// The levels, and the end of the line.
+fn push_book(out: &mut Vec<u8>, stage: &Stage, heap: Global) -> Result<(), AllocError>
+    ensures { λ r. ⌜ made r (λ _. vec-items (now (out .exit)) ≡ vec-items (now (out .entry)) ++ bookText (vec-items (now (stage .entry) .levels))) ⌝ }
+{
+    out.extend_from_slice(b", levels")?;
+    push_levels(out, stage, heap)?;
+    out.extend_from_slice(b"\n")?;
+    Ok(())
+}
+
+impl Show {
+    // Circle 0 is given.
+    fn circle(&mut self, desks: &[u64]) -> Answer
+        ensures value { λ r. ⌜ r ≡ circleAnswer (now (self .entry) .stage .inside) (firstOther (now (self .entry) .desk) (now (desks .entry))) (now (desks .entry)) ⌝ }
+        ensures after { λ r. ⌜ now (self .exit) ≡ cond (isNothing r) (entered (now (self .entry))) (now (self .entry)) ⌝ }
+    {
+        if let Some(other) = first_other(self.desk, desks) {
+            return Answer::NotInShow(other);
+        }
+        if self.stage.is_inside() {
+            return Answer::Cannot(Why::OneCircleOnly);
+        }
+        match desks {
+            [] => Answer::Cannot(Why::NoDeskInCircle),
+            [_] => {
+                self.stage.enter();
+                Answer::Nothing
+            }
+            _ => Answer::Cannot(Why::TwiceInCircle),
+        }
+    }
+
+    fn call(&mut self, asked: &asked::Action) -> Result<Answer, AllocError>
+        ensures { λ r. ⌜ Called (now (self .entry)) (now (self .exit)) (actionOr (now (asked .entry))) r ⌝ }
+    {
+        let action = match action_of(asked) {
+            Ok(action) => action,
+            Err(refusal) => return Ok(Answer::TurnedAway(refusal.number())),
+        };
+        match self.stage.issue(action) {
+            Ok(()) => Ok(Answer::Nothing),
+            Err(e) => match e.number() {
+                Some(number) => Ok(Answer::TurnedAway(number)),
+                None => Err(AllocError),
+            },
+        }
+    }
+
+    fn of_desk(&mut self, desk: u64, request: &asked::DeskRequest) -> Result<Answer, AllocError>
+        ensures { λ r. ⌜ OfDesk (now (self .entry)) (now (self .exit)) desk (now (request .entry)) r ⌝ }
+    {
+        if desk != self.desk {
+            return Ok(Answer::NotInShow(desk));
+        }
+        match request {
+            asked::DeskRequest::Call(action) => self.call(action),
+            asked::DeskRequest::Book(channel) => Ok(
+                match self.stage.level(*channel) {
+                    Ok(level) => Answer::Level(level),
+                    Err(refusal) => Answer::TurnedAway(refusal.number()),
+                },
+            ),
+            asked::DeskRequest::Done => Ok(Answer::Done(self.stage.done())),
+        }
+    }
+
+    // `desk D: PLACE, done N, digest HEX, levels C=L C=L`, behind what `out` holds.
+    fn write(&self, out: &mut Vec<u8>, heap: Global) -> Result<(), AllocError>
+        ensures { λ r. ⌜ made r (λ _. vec-items (now (out .exit)) ≡ vec-items (now (out .entry)) ++ showText (now (self .entry))) ⌝ }
+    {
+        push_around(out, b"desk ", self.desk, b": ", heap)?;
+        push_place(out, self.stage.is_inside())?;
+        push_record(out, &self.stage.done(), heap)?;
+        push_book(out, &self.stage, heap)?;
+        Ok(())
+    }
+
+    // Delivers all that waits.
+    fn settle(&mut self) -> Answer
+        ensures { λ r. ⌜ SettledAs (now (self .entry)) (now (self .exit)) r ⌝ }
+    {
+        Answer::Settled(self.stage.settle())
+    }
+}
+
+// Does what a line asks, or answers why not. A line that asks for the desks' lines is written by `answer`.
+fn carry_out(
+    show: &mut Option<Show>,
+    request: &asked::Request,
+    heap: Global,
+) -> Result<Answer, AllocError>
+    ensures { λ r. ⌜ Carried (now (show .entry)) (now (show .exit)) (now (request .entry)) r ⌝ }
+{
+    match request {
+        asked::Request::Blank => Ok(Answer::Nothing),
+        asked::Request::Desks(given) => desks(show, given, heap),
+        asked::Request::Digest(bytes) => Ok(Answer::Digest(digest(bytes))),
+        asked::Request::OfDesk(desk, asked) => match show {
+            Some(show) => show.of_desk(*desk, asked),
+            None => Ok(Answer::NotInShow(*desk)),
+        },
+        asked::Request::Circle(told) => match show {
+            Some(show) => Ok(show.circle(told)),
+            None => Ok(Answer::Cannot(Why::NoDesksYet)),
+        },
+        asked::Request::Settle => match show {
+            Some(show) => Ok(show.settle()),
+            None => Ok(Answer::Cannot(Why::NoDesksYet)),
+        },
+        asked::Request::Show => match show {
+            Some(_) => Ok(Answer::Nothing),
+            None => Ok(Answer::Cannot(Why::NoDesksYet)),
+        },
+    }
+}
+
+// The desks' lines, where the line asks for them.
+fn push_shown(
+    out: &mut Vec<u8>,
+    show: &Option<Show>,
+    request: &asked::Request,
+    heap: Global,
+) -> Result<(), AllocError>
+    ensures { λ r. ⌜ made r (λ _. vec-items (now (out .exit)) ≡ vec-items (now (out .entry)) ++ cond (asksShow (now (request .entry))) (deskLines (now (show .entry))) []) ⌝ }
+{
+    if let asked::Request::Show = request {
+        if let Some(show) = show {
+            show.write(out, heap)?;
+        }
+    }
+    Ok(())
+}
+
+// Does what a line asks, and writes what is answered behind what `out` holds.
+pub fn answer(
+    show: &mut Option<Show>,
+    line: u64,
+    request: &asked::Request,
+    out: &mut Vec<u8>,
+    heap: Global,
+) -> Result<(), AllocError>
+    ensures { λ r. ⌜ made r (λ _. Answered line (now (request .entry)) (now (show .entry)) (now (show .exit)) (vec-items (now (out .entry))) (vec-items (now (out .exit)))) ⌝ }
+{
+    let answer = carry_out(show, request, heap)?;
+    answer.write(out, line, heap)?;
+    push_shown(out, show, request, heap)?;
+    Ok(())
+}

@@ -1,0 +1,5 @@
+pub mod Cursor
+pub mod Hex
+pub mod Line
+pub mod Numeral
+pub mod Unhexed
