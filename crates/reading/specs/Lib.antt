@@ -1,4 +1,3 @@
 pub mod Answer
 pub mod Meaning
 pub mod Shown
-pub mod Values

@@ -5,9 +5,9 @@ use Prim.Native.Nat.{ℕ}
 use denote.Ref.{RefT}
 use Rattle.std.specs.declared.result.Result.{Result}
 use Rattle.std.specs.declared.result.Result.the-variants.{Ok, Err}
-use Rattle.text.specs.declared.hexadecimal.HexError.{HexError}
-use Rattle.text.specs.declared.hexadecimal.HexError.the-variants.{Odd, NoDigit}
-use Rattle.text.specs.declared.hexadecimal.HexError.the-variants as hex
+use Rattle.hexadecimal.specs.declared.HexError.{HexError}
+use Rattle.hexadecimal.specs.declared.HexError.the-variants.{Odd, NoDigit}
+use Rattle.hexadecimal.specs.declared.HexError.the-variants as hex
 use Rattle.reading.specs.declared.unreadable.Reason.{Reason}
 use Rattle.reading.specs.declared.unreadable.Reason.the-variants.{UnknownWord, MissingWord, NoNumber, MissingNumber, TooManyWords, OddHexadecimal, NoHexadecimal}
 use Rattle.reading.specs.declared.unreadable.ReadError.{ReadError}

@@ -12,7 +12,7 @@ use std::alloc::AllocError;
 use std::alloc::Refused;
 
 // The word is the one that stood there.
-#[derive(Clone, Copy, Debug)]
+#[derive(Clone, Copy)]
 pub enum Reason<'a> {
     UnknownWord(&'a [u8]),
     MissingWord,
@@ -23,7 +23,7 @@ pub enum Reason<'a> {
     NoHexadecimal(&'a [u8]),
 }
 
-#[derive(Clone, Copy, Debug)]
+#[derive(Clone, Copy)]
 pub enum ReadError<'a> {
     Unreadable(Reason<'a>),
     Memory,

@@ -8,12 +8,10 @@ ghost use lib.ListN.{length, getD};
 ghost use Rattle.std.specs.Of.Vec.{vec-items, vec-len};
 ghost use Rattle.std.specs.Options.{Cases as BySome};
 ghost use Rattle.std.specs.Vec.{made};
+use shows::show::LONGEST;
 use std::alloc::AllocError;
 use std::io;
 use std::io::BufRead;
-
-// How long a line may be, in bytes.
-pub const LONGEST: usize = 12000000;
 
 // Where the line ends in what has been read.
 fn line_end(held: &[u8]) -> Option<usize>

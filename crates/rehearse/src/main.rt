@@ -1,48 +1,15 @@
 // Plays shows: reads their lines, has each carried out, and prints what is answered.
 mod input;
 
-use input::LONGEST;
 use input::read_line;
-use reading::unreadable::ReadError;
-use reading::unreadable::Reason;
-use requests::lines::read;
-use shows::answers::push_line;
-use shows::show::Show;
-use shows::show::answer;
-use std::alloc::AllocError;
-use std::alloc::Global;
+use shows::show::play_line;
 use std::env;
 use std::error::AnyError;
 use std::fs;
-use std::io;
 use std::io::BufRead;
 use std::io::BufReader;
 use std::io::BufWriter;
 use std::io::Write;
-
-// What is said of a line that can't be read.
-fn unreadable(out: &mut Vec<u8>, line: u64, reason: Reason<'_>, heap: Global) -> Result<(), AllocError> {
-    push_line(out, line, heap)?;
-    out.extend_from_slice(b"? ")?;
-    reason.write(out)?;
-    out.extend_from_slice(b"\n")?;
-    Ok(())
-}
-
-// One line of a show, and what is printed for it.
-fn line(show: &mut Option<Show>, number: u64, text: &[u8], out: &mut Vec<u8>, heap: Global) -> Result<(), AllocError> {
-    if text.len() > LONGEST {
-        push_line(out, number, heap)?;
-        out.extend_from_slice(b"? line too long\n")?;
-        return Ok(());
-    }
-    match read(text, heap) {
-        Ok(request) => answer(show, number, &request, out, heap)?,
-        Err(ReadError::Unreadable(reason)) => unreadable(out, number, reason, heap)?,
-        Err(ReadError::Memory) => return Err(AllocError),
-    }
-    Ok(())
-}
 
 // A show from its first line to its last, from nothing.
 fn play<R: BufRead>(rt: &LibcRuntime, from: &mut R) -> Result<(), AnyError> {
@@ -57,7 +24,7 @@ fn play<R: BufRead>(rt: &LibcRuntime, from: &mut R) -> Result<(), AnyError> {
         if !read_line(from, &mut text)? {
             break;
         }
-        line(&mut show, number, &text, &mut out, heap)?;
+        play_line(&mut show, number, &text, &mut out, heap)?;
         if !out.is_empty() {
             to.write_all(&out)?;
             to.flush()?;

@@ -6,7 +6,7 @@ use Rattle.std.specs.declared.option.Option.{Option}
 use Rattle.std.specs.declared.option.Option.the-variants.{Some, None}
 use Rattle.text.specs.Numeral.{numberOf}
 use Rattle.reading.specs.Answer.{Answer, reads, cannot, _then_, unknownWord, missingWord}
-use Rattle.reading.specs.Values.{ifNamed, aNumber, aStep, theEnd, numbersSaid, bytesSaid}
+use Rattle.requests.specs.Values.{ifNamed, aNumber, aStep, theEnd, numbersSaid, bytesSaid}
 use Rattle.requests.specs.Said.{ActionSaid, set, move, scene, DeskSaid, call, book, done, Said, blank, desks, circle, ofDesk, settle, show, digest}
 
 -- `C L` behind `call set`

@@ -1,3 +1,4 @@
 pub mod Grammar
 pub mod Meaning
 pub mod Said
+pub mod Values

@@ -1,7 +1,7 @@
 // What a line may ask. Channels, levels and desk numbers are whatever number stood there: others judge them by value.
 
 // What the operator of a desk does to the lights.
-#[derive(Drop, Debug)]
+#[derive(Drop)]
 pub enum Action {
     Set { channel: u64, level: u64 },
     Move { channel: u64, step: i32 },
@@ -9,7 +9,7 @@ pub enum Action {
 }
 
 // What one desk is asked.
-#[derive(Drop, Debug)]
+#[derive(Drop)]
 pub enum DeskRequest {
     Call(Action),
     // the level of a channel
@@ -18,7 +18,7 @@ pub enum DeskRequest {
 }
 
 // What a line of a show asks.
-#[derive(Drop, Debug)]
+#[derive(Drop)]
 pub enum Request {
     // no words
     Blank,

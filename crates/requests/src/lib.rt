@@ -1,5 +1,4 @@
 // What the lines of the programs ask: lines of bytes read as typed requests.
 pub mod asked;
 pub mod lines;
-#[cfg(test)]
-mod tests;
+mod values;

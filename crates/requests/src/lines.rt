@@ -1,5 +1,4 @@
 // Reads the lines of a show.
-ghost use mathlib.Core.Path.{_≡_};
 ghost use Rattle.text.specs.Cursor.{left};
 ghost use Rattle.text.specs.Line.{words, plain};
 ghost use Rattle.reading.specs.Meaning.{Tells};
@@ -8,14 +7,14 @@ ghost use Rattle.requests.specs.Meaning.{actionMeant, deskMeant, meant};
 use crate::asked::Action;
 use crate::asked::DeskRequest;
 use crate::asked::Request;
+use crate::values::bytes;
+use crate::values::end;
+use crate::values::is;
+use crate::values::numbers;
+use crate::values::take_number;
+use crate::values::take_step;
 use reading::unreadable::ReadError;
 use reading::unreadable::Reason;
-use reading::values::bytes;
-use reading::values::end;
-use reading::values::is;
-use reading::values::numbers;
-use reading::values::take_number;
-use reading::values::take_step;
 use std::alloc::Global;
 use text::numbers::number;
 use text::words::Words;
@@ -59,7 +58,7 @@ fn request<'a>(word: &'a [u8], rest: &mut Words<'a>, heap: Global) -> Result<Req
 }
 
 // What one desk is asked by the words that are left.
-pub fn desk_request<'a>(rest: &mut Words<'a>, heap: Global) -> Result<DeskRequest, ReadError<'a>>
+fn desk_request<'a>(rest: &mut Words<'a>, heap: Global) -> Result<DeskRequest, ReadError<'a>>
     ensures { λ r. ⌜ Tells deskMeant (deskSaid (left (now (rest .entry)))) r ⌝ }
 {
     let Some(word) = rest.next() else {

@@ -1,6 +1,6 @@
 -- One step more of the definitions that go by recursion: the schedule, the rounds, the blocks.
 -- Assumes nothing.
-use mathlib.Core.Path.{_≡_, sym, _∙_, ap}
+use mathlib.Core.Path.{_≡_, refl, sym, _∙_, ap}
 use mathlib.Core.List.{List, [], _∷_, _++_}
 use Prim.Native.Nat.{ℕ, _+_, _-_, _*_, _<_, _≤_}
 use native.Mathlib.Numerals.{add-one}
@@ -43,10 +43,22 @@ module _ (block w : List ℕ) (t x : ℕ) (fits : t < length w) (so-far : take t
       let e16 = before 16 (omega arith) (omega arith) in
       written (cond-above t 16 _ _ _ h (cc))
 
+-- word t, written behind the t words before it
+pub word-next : (block w v : List ℕ) (t u : ℕ) → u ≡ t + 1 → 16 ≤ t → t < length w → take t w ≡ schedule block t
+    → v ≡ set w t (laterWord (getD w (t - 2) 0) (getD w (t - 7) 0) (getD w (t - 15) 0) (getD w (t - 16) 0))
+    → take u v ≡ schedule block u
+word-next block w v t u next late fits so-far e = rw (next, e) (later-more block w t _ fits so-far late refl)
+
 pub rounds-more : (v : State) (w : List ℕ) (t : ℕ)
     → afterRounds v w (t + 1) ≡ oneRound (afterRounds v w t) (getD roundConstants t 0) (getD w t 0)
 unfolding afterRounds
 rounds-more v w t = rw add-one
+
+-- round t, done to the working variables after t rounds
+pub rounds-next : (v s r : State) (w : List ℕ) (t u : ℕ) → u ≡ t + 1 → s ≡ afterRounds v w t
+    → r ≡ oneRound s (getD roundConstants t 0) (getD w t 0) → r ≡ afterRounds v w u
+rounds-next v s r w t u next before e =
+    e ∙ ap (λ x. oneRound x (getD roundConstants t 0) (getD w t 0)) before ∙ sym (rounds-more v w t) ∙ ap (afterRounds v w) (sym next)
 
 -- the slice that the code takes for block i is that block
 pub hashed-more : (h s r : State) (m : List ℕ) (i : ℕ) → s ≡ hashed h m i

@@ -3,7 +3,9 @@ use mathlib.Core.Path.{_≡_}
 use mathlib.Core.Bool.{Bool, true, false, cond}
 use mathlib.Core.List.{List, [], _∷_, _++_}
 use Prim.Native.Nat.{ℕ, _≤_}
-use lib.Dec.{eqb}
+use lib.Chars.{codes}
+use lib.Dec.{eqb, leb}
+use lib.ListN.{length}
 use Rattle.std.specs.Of.Vec.{vec-items}
 use Rattle.std.specs.Orderings.{When}
 use Rattle.std.specs.Slices.{found}
@@ -24,12 +26,21 @@ use Rattle.requests.specs.declared.asked.DeskRequest.{DeskRequest}
 use Rattle.requests.specs.declared.asked.DeskRequest.the-variants.{Call, Book, Done as Done′}
 use Rattle.requests.specs.declared.asked.Request.{Request}
 use Rattle.requests.specs.declared.asked.Request.the-variants.{Blank, Desks, Circle, OfDesk as OfDesk′, Settle, Show as Show′, Digest as Digest′}
+use Rattle.requests.specs.Said.{Said}
+use Rattle.requests.specs.Grammar.{said}
+use Rattle.requests.specs.Meaning.{meant}
+use Rattle.reading.specs.Answer.{Why, Answer as Answer′, reads, cannot}
+use Rattle.reading.specs.Shown.{textOf}
+use Rattle.reading.specs.Meaning.{whyOf}
+use Rattle.reading.specs.declared.unreadable.ReadError.{ReadError}
+use Rattle.reading.specs.declared.unreadable.ReadError.the-variants.{Unreadable, Memory}
+use Rattle.text.specs.Line.{words, plain}
 use Rattle.sha256.specs.Sha256.{sha256}
 use Rattle.shows.specs.declared.answers.Why.the-variants.{NoDesksYet, NoDeskInCircle, TwiceInCircle, OneCircleOnly}
 use Rattle.shows.specs.declared.answers.Answer.{Answer}
 use Rattle.shows.specs.declared.answers.Answer.the-variants.{Nothing, Level, Done, Digest, Settled, TurnedAway, NotInShow, Cannot}
 use Rattle.shows.specs.declared.show.Show.{Show}
-use Rattle.shows.specs.Texts.{answerText, showText}
+use Rattle.shows.specs.Texts.{answerText, lineText, showText}
 
 -- the action that was asked for, or the first value that can't be
 abbrev pub actionOr : Asked → Result Action Refusal
@@ -160,3 +171,22 @@ replyText n q a t = answerText n a ++ cond (asksShow q) (deskLines t) []
 -- a line is answered: what it asks is done, and what is printed says so
 abbrev pub Answered : ℕ → Request → Option Show → Option Show → List ℕ → List ℕ → Type 0
 Answered n q s t out new = (a : Answer) × Carried s t q (Ok a) × (new ≡ out ++ replyText n q a t)
+
+-- what is printed for line n, which can't be read
+abbrev pub unreadableText : ℕ → Why → List ℕ
+unreadableText n w = lineText n ++ (codes "? " ++ (textOf w ++ codes "\n"))
+
+-- what is printed for a line that was not read; where memory was wanting, nothing is printed at all
+abbrev pub Unread : ℕ → ReadError → List ℕ → List ℕ → Type 0
+Unread n (Unreadable e) out new = new ≡ out ++ unreadableText n (whyOf e)
+Unread n Memory out new = ⊥
+
+-- a line is played: what its words say is done and answered; one that can't be read is answered with why, and changes nothing
+abbrev pub PlayedAs : ℕ → Answer′ Said → Option Show → Option Show → List ℕ → List ℕ → Type 0
+PlayedAs n (reads q) s t out new = (p : Request) × (meant p ≡ q) × Answered n p s t out new
+PlayedAs n (cannot w) s t out new = (t ≡ s) × (new ≡ out ++ unreadableText n w)
+
+-- a line of a show; one of more than 12,000,000 bytes is answered so, and changes nothing
+abbrev pub Played : ℕ → List ℕ → Option Show → Option Show → List ℕ → List ℕ → Type 0
+Played n text s t out new =
+    When (leb (length text) 12000000) (PlayedAs n (said (words (plain text))) s t out new) ((t ≡ s) × (new ≡ out ++ (lineText n ++ codes "? line too long\n")))

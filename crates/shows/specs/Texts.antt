@@ -6,7 +6,7 @@ use lib.Chars.{codes}
 use lib.Dec.{eqb}
 use lib.ListN.{getD}
 use Rattle.std.specs.Of.Vec.{vec-items}
-use Rattle.text.specs.Hex.{hexOf}
+use Rattle.hexadecimal.specs.Hex.{hexOf}
 use Rattle.std.specs.Written.{decimal}
 use Rattle.history.specs.declared.Record.{Record}
 use Rattle.shows.specs.declared.show.Show.{Show}

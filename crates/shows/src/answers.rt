@@ -4,12 +4,12 @@ ghost use mathlib.Core.List.{_++_};
 ghost use lib.Chars.{codes};
 ghost use Rattle.std.specs.Of.Vec.{vec-items};
 ghost use Rattle.std.specs.Vec.{made};
-ghost use Rattle.text.specs.Hex.{hexOf};
+ghost use Rattle.hexadecimal.specs.Hex.{hexOf};
 ghost use Rattle.shows.specs.Texts.{whyText, around, lineText, answerText};
+use hexadecimal::push_hex;
 use history::Record;
 use std::alloc::AllocError;
 use std::alloc::Global;
-use text::hexadecimal::push_hex;
 use text::numbers::push_number;
 
 // Why a line that was read can't be carried out, beside the refusals of the table.
@@ -72,7 +72,7 @@ pub(crate) fn push_around(
 }
 
 // `line N: `, which begins what is said of a line that could not be carried out.
-pub fn push_line(out: &mut Vec<u8>, line: u64, heap: Global) -> Result<(), AllocError>
+pub(crate) fn push_line(out: &mut Vec<u8>, line: u64, heap: Global) -> Result<(), AllocError>
     ensures { λ r. ⌜ made r (λ _. vec-items (now (out .exit)) ≡ vec-items (now (out .entry)) ++ lineText line) ⌝ }
 {
     push_around(out, b"line ", line, b": ", heap)?;
@@ -99,7 +99,7 @@ fn push_cannot(out: &mut Vec<u8>, why: Why) -> Result<(), AllocError>
 
 impl Answer {
     // The answer's text for line `line`, behind what `out` holds.
-    pub fn write(self, out: &mut Vec<u8>, line: u64, heap: Global) -> Result<(), AllocError>
+    pub(crate) fn write(self, out: &mut Vec<u8>, line: u64, heap: Global) -> Result<(), AllocError>
         ensures { λ r. ⌜ made r (λ _. vec-items (now (out .exit)) ≡ vec-items (now (out .entry)) ++ answerText line self) ⌝ }
     {
         match self {

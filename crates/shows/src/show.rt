@@ -7,21 +7,29 @@ ghost use lib.ListN.{getD};
 ghost use Rattle.std.specs.Of.Vec.{vec-items};
 ghost use Rattle.std.specs.Vec.{made};
 ghost use Rattle.shows.specs.Texts.{placeText, recordText, levelText, levelsText, bookText, showText};
-ghost use Rattle.shows.specs.Shows.{actionOr, firstOther, circleAnswer, isNothing, DesksGiven, entered, Called, OfDesk, SettledAs, Carried, asksShow, deskLines, Answered};
+ghost use Rattle.shows.specs.Shows.{actionOr, firstOther, circleAnswer, isNothing, DesksGiven, entered, Called, OfDesk, SettledAs, Carried, asksShow, deskLines, Answered, unreadableText, Unread, Played};
+ghost use Rattle.reading.specs.Meaning.{whyOf};
 use crate::answers::Answer;
 use crate::answers::Why;
 use crate::answers::push_around;
+use crate::answers::push_line;
 use commands::types::Action;
 use commands::types::MemberId;
 use commands::types::Refusal;
+use hexadecimal::push_hex;
 use history::Record;
+use reading::unreadable::ReadError;
+use reading::unreadable::Reason;
 use requests::asked;
+use requests::lines::read;
 use sha256::digest;
 use stage::Stage;
 use std::alloc::AllocError;
 use std::alloc::Global;
-use text::hexadecimal::push_hex;
 use text::numbers::push_number;
+
+// How long a line may be, in bytes.
+pub const LONGEST: usize = 12000000;
 
 // The one desk that plays, by its number.
 #[derive(Drop)]
@@ -257,7 +265,7 @@ fn push_shown(
 }
 
 // Does what a line asks, and writes what is answered behind what `out` holds.
-pub fn answer(
+fn answer(
     show: &mut Option<Show>,
     line: u64,
     request: &asked::Request,
@@ -269,5 +277,59 @@ pub fn answer(
     let answer = carry_out(show, request, heap)?;
     answer.write(out, line, heap)?;
     push_shown(out, show, request, heap)?;
+    Ok(())
+}
+
+// What is said of a line that can't be read.
+fn push_reason(
+    out: &mut Vec<u8>,
+    line: u64,
+    reason: Reason<'_>,
+    heap: Global,
+) -> Result<(), AllocError>
+    ensures { λ r. ⌜ made r (λ _. vec-items (now (out .exit)) ≡ vec-items (now (out .entry)) ++ unreadableText line (whyOf (reason .entry))) ⌝ }
+{
+    push_line(out, line, heap)?;
+    out.extend_from_slice(b"? ")?;
+    reason.write(out)?;
+    out.extend_from_slice(b"\n")?;
+    Ok(())
+}
+
+// The same, unless it was memory that was wanting.
+fn push_unreadable(
+    out: &mut Vec<u8>,
+    line: u64,
+    error: ReadError<'_>,
+    heap: Global,
+) -> Result<(), AllocError>
+    ensures { λ r. ⌜ made r (λ _. Unread line (error .entry) (vec-items (now (out .entry))) (vec-items (now (out .exit)))) ⌝ }
+{
+    match error {
+        ReadError::Unreadable(reason) => push_reason(out, line, reason, heap)?,
+        ReadError::Memory => return Err(AllocError),
+    }
+    Ok(())
+}
+
+// Plays line number `line` of a show: does what its text asks, and writes what is answered behind what `out` holds.
+pub fn play_line(
+    show: &mut Option<Show>,
+    line: u64,
+    text: &[u8],
+    out: &mut Vec<u8>,
+    heap: Global,
+) -> Result<(), AllocError>
+    ensures { λ r. ⌜ made r (λ _. Played line (now (text .entry)) (now (show .entry)) (now (show .exit)) (vec-items (now (out .entry))) (vec-items (now (out .exit)))) ⌝ }
+{
+    if text.len() > LONGEST {
+        push_line(out, line, heap)?;
+        out.extend_from_slice(b"? line too long\n")?;
+        return Ok(());
+    }
+    match read(text, heap) {
+        Ok(request) => answer(show, line, &request, out, heap)?,
+        Err(error) => push_unreadable(out, line, error, heap)?,
+    }
     Ok(())
 }

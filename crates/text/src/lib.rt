@@ -1,6 +1,3 @@
-// The text of the programs' lines: words, numbers, steps and hexadecimal, read from bytes and written to bytes.
-pub mod hexadecimal;
+// The text of the programs' lines: words, numbers and steps, read from bytes and written to bytes.
 pub mod numbers;
-#[cfg(test)]
-mod tests;
 pub mod words;

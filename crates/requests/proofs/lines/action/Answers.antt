@@ -2,7 +2,7 @@ use mathlib.Core.Path.{sym, ap, _∙_}
 use Rattle.requests.specs.Grammar.{actionSaid}
 use Rattle.requests.specs.Meaning.{actionMeant}
 use Rattle.reading.specs.Meaning.{Refuses}
-use Rattle.reading.proofs.Chain.{at-name, past-name, tells}
+use Rattle.requests.proofs.Chain.{at-name, past-name, tells}
 use Rattle.requests.proofs.lines.action.Needs as need
 
 pub returns-in-rest : need.returns-in-rest

@@ -1,7 +1,7 @@
 use mathlib.Core.Path.{_∙_}
 use Rattle.requests.specs.Grammar.{bookSaid}
 use Rattle.requests.specs.Meaning.{deskMeant}
-use Rattle.reading.proofs.Chain.{then-reads, tells, err-then}
+use Rattle.requests.proofs.Chain.{then-reads, tells, err-then}
 use Rattle.requests.proofs.lines.book.Needs as need
 
 pub returns-in-Break-channel : need.returns-in-Break-channel

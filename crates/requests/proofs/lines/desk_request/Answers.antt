@@ -2,7 +2,7 @@ use mathlib.Core.Path.{sym, ap, _∙_}
 use Rattle.requests.specs.Grammar.{deskSaid}
 use Rattle.requests.specs.Meaning.{deskMeant}
 use Rattle.reading.specs.Meaning.{Refuses}
-use Rattle.reading.proofs.Chain.{at-name, past-name, then-reads, tells, err-then}
+use Rattle.requests.proofs.Chain.{at-name, past-name, then-reads, tells, err-then}
 use Rattle.requests.proofs.lines.desk_request.Needs as need
 
 pub returns-in-rest : need.returns-in-rest

@@ -1,7 +1,7 @@
 use mathlib.Core.Path.{sym, ap, _∙_}
 use Rattle.requests.specs.Grammar.{said}
 use Rattle.requests.specs.Meaning.{meant}
-use Rattle.reading.proofs.Chain.{tells}
+use Rattle.requests.proofs.Chain.{tells}
 use Rattle.requests.proofs.lines.read.Needs as need
 
 pub returns-in-rest : need.returns-in-rest

@@ -3,7 +3,7 @@ use Rattle.text.specs.Cursor.{left}
 use Rattle.requests.specs.Grammar.{deskLine, wordSaid}
 use Rattle.requests.specs.Meaning.{meant}
 use Rattle.reading.specs.Meaning.{Refuses}
-use Rattle.reading.proofs.Chain.{at-name, past-name, then-reads, tells, err-then}
+use Rattle.requests.proofs.Chain.{at-name, past-name, then-reads, tells, err-then}
 use Rattle.requests.proofs.lines.request.Needs as need
 
 pub returns-in-Break-numbers : need.returns-in-Break-numbers

@@ -7,7 +7,7 @@ use Rattle.requests.specs.Grammar.{moveSaid}
 use Rattle.reading.specs.Answer.{reads}
 use Rattle.requests.specs.Said.{move}
 use Rattle.requests.specs.Meaning.{actionMeant}
-use Rattle.reading.proofs.Chain.{then-reads, tells, err-then}
+use Rattle.requests.proofs.Chain.{then-reads, tells, err-then}
 use Rattle.requests.proofs.lines.shift.Needs as need
 
 pub returns-in-Break-channel : need.returns-in-Break-channel

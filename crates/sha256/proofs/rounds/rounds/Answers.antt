@@ -1,11 +1,19 @@
-use mathlib.Core.Path.{refl}
+use mathlib.Core.Path.{_≡_, refl, ap, _∙_}
+use Prim.Native.Nat.{_+_, _*_}
+use native.Mathlib.Omega.{arith}
 use Rattle.sha256.specs.Sha256.{afterRounds}
-use Rattle.sha256.proofs.Steps.{rounds-more}
 use Rattle.sha256.proofs.rounds.rounds.Needs as need
 
-pub loop-t-holds : need.loop-t-holds
+pub loop-i-holds : need.loop-i-holds
 unfolding afterRounds
-loop-t-holds c = refl
+loop-i-holds c = refl
 
-pub loop-t-again : need.loop-t-again
-loop-t-again c = let e = rounds-more (c .args .start) (c .args .w .now) (c .loop-t .t) in cc
+pub loop-i-again : need.loop-i-again
+loop-i-again c =
+    let next : 8 * c .loop-i .i + 8 ≡ 8 * (c .loop-i .i + 1) = omega arith in
+    c .eight-rounds-s .ensures (c .args .start) (c .loop-i .inv) ∙ ap (afterRounds (c .args .start) (c .args .w .now)) next
+
+pub returns : need.returns
+returns c =
+    let all : 8 * c .loop-i .i ≡ 64 = omega arith in
+    c .loop-i .inv ∙ ap (afterRounds (c .args .start) (c .args .w .now)) all

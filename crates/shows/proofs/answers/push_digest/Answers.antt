@@ -2,7 +2,7 @@ use mathlib.Core.Path.{refl}
 use Rattle.std.specs.Of.Vec.{vec-items}
 use Rattle.std.proofs.shelf.Parts.{pushed}
 use lib.Chars.{codes}
-use Rattle.text.specs.Hex.{hexOf}
+use Rattle.hexadecimal.specs.Hex.{hexOf}
 use Rattle.shows.proofs.Chains.{two}
 use Rattle.shows.proofs.answers.push_digest.Needs as need
 

@@ -3,7 +3,7 @@ use mathlib.Core.List.{_++_}
 use lib.Chars.{codes}
 use Rattle.std.specs.Of.Vec.{vec-items}
 use Rattle.std.proofs.shelf.Parts.{pushed}
-use Rattle.text.specs.Hex.{hexOf}
+use Rattle.hexadecimal.specs.Hex.{hexOf}
 use Rattle.shows.specs.Texts.{around}
 use Rattle.shows.proofs.Chains.{behind}
 use Rattle.shows.proofs.show.push_record.Needs as need

@@ -1,5 +1,4 @@
-use mathlib.Core.Path.{sym, ap, _∙_}
-use native.Mathlib.Omega.{arith}
+use mathlib.Core.Path.{sym, _∙_}
 use borrow.Author.Needs.{needs}
 use borrow.Author.Tests.{true-eqb, false-eqb}
 use Rattle.text.proofs.Decimal.{read-none, read-some, read-more, read-stops, read-all}

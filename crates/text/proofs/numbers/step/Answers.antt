@@ -1,4 +1,4 @@
-use mathlib.Core.Path.{sym, ap, _∙_}
+use mathlib.Core.Path.{ap, _∙_}
 use Rattle.text.specs.Numeral.{raised, lowered}
 use Rattle.text.proofs.Decimal.{step-none, step-minus, step-plus, step-plain}
 use Rattle.text.proofs.numbers.step.Needs as need

@@ -2,7 +2,7 @@ use mathlib.Core.Path.{_≡_, ap, sym, _∙_}
 use mathlib.Core.List.{[], _++_}
 use lib.Chars.{codes}
 use Rattle.std.specs.Of.Vec.{vec-items}
-use Rattle.text.specs.Hex.{hexOf}
+use Rattle.hexadecimal.specs.Hex.{hexOf}
 use Rattle.shows.specs.Texts.{around, answerText, lineText, whyText}
 use Rattle.shows.proofs.Chains.{behind}
 use Rattle.shows.proofs.answers.Answer.write.Needs as need
