@@ -1,6 +1,4 @@
 // Plays shows: reads their lines, has each carried out, and prints what is answered.
-mod input;
-
 use input::read_line;
 use shows::show::play_line;
 use std::env;

@@ -1,3 +1,4 @@
 // A show: what its lines do to the desks on the stage, and what is answered.
-pub mod answers;
+mod answers;
+mod desk_line;
 pub mod show;

@@ -7,7 +7,7 @@ use Rattle.std.proofs.shelf.Parts.{pushed}
 use Rattle.std.proofs.shelf.Tests.{ne-eqb, cond-false}
 use Rattle.shows.specs.Texts.{around}
 use Rattle.shows.proofs.Chains.{behind}
-use Rattle.shows.proofs.show.push_level.Needs as need
+use Rattle.shows.proofs.desk_line.push_level.Needs as need
 
 pub returns-in-Continue-push-number : need.returns-in-Continue-push-number
 returns-in-Continue-push-number c =

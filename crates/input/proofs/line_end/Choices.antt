@@ -1,7 +1,7 @@
 use Prim.Native.Nat.{ℕ, _<_}
 use mathlib.Core.Path.{_≡_}
 use lib.ListN.{getD}
-use Rattle.rehearse.proofs.input.line_end.Given as given
+use Rattle.input.proofs.line_end.Given as given
 
 -- no end so far
 abbrev pub Inv-loop-i : given.InvT-loop-i

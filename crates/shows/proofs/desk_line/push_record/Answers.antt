@@ -6,7 +6,7 @@ use Rattle.std.proofs.shelf.Parts.{pushed}
 use Rattle.hexadecimal.specs.Hex.{hexOf}
 use Rattle.shows.specs.Texts.{around}
 use Rattle.shows.proofs.Chains.{behind}
-use Rattle.shows.proofs.show.push_record.Needs as need
+use Rattle.shows.proofs.desk_line.push_record.Needs as need
 
 pub returns : need.returns
 returns c =

@@ -1,4 +1,4 @@
-// Lines of a stream.
+// The lines of a stream. What is read is in no contract; what is kept of it is.
 ghost use mathlib.Core.Path.{_≡_};
 ghost use mathlib.Core.Bool.{cond};
 ghost use mathlib.Core.List.{_++_};
@@ -8,10 +8,12 @@ ghost use lib.ListN.{length, getD};
 ghost use Rattle.std.specs.Of.Vec.{vec-items, vec-len};
 ghost use Rattle.std.specs.Options.{Cases as BySome};
 ghost use Rattle.std.specs.Vec.{made};
-use shows::show::LONGEST;
 use std::alloc::AllocError;
 use std::io;
 use std::io::BufRead;
+
+// How long a line may be, in bytes.
+pub const LONGEST: usize = 12000000;
 
 // Where the line ends in what has been read.
 fn line_end(held: &[u8]) -> Option<usize>

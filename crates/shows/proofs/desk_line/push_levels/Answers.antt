@@ -6,7 +6,7 @@ use lib.ListN.{getD}
 use Rattle.std.specs.Of.Vec.{vec-items}
 use Rattle.shows.specs.Texts.{levelsText, levelText}
 use Rattle.shows.proofs.Chains.{behind}
-use Rattle.shows.proofs.show.push_levels.Needs as need
+use Rattle.shows.proofs.desk_line.push_levels.Needs as need
 
 pub loop-channel-holds : need.loop-channel-holds
 unfolding levelsText

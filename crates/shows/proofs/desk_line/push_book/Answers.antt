@@ -5,7 +5,7 @@ use Rattle.std.specs.Of.Vec.{vec-items}
 use Rattle.std.proofs.shelf.Parts.{pushed}
 use Rattle.shows.specs.Texts.{levelsText}
 use Rattle.shows.proofs.Chains.{behind}
-use Rattle.shows.proofs.show.push_book.Needs as need
+use Rattle.shows.proofs.desk_line.push_book.Needs as need
 
 pub returns : need.returns
 returns c =
