@@ -1,21 +1,20 @@
 -- No command's bytes begin another's, a command cut short is never read, and a command's bytes are bytes.
-use mathlib.Core.Path.{_≡_, refl, sym, ap, subst, _∙_}
-use mathlib.Core.List.{List, [], _∷_, _++_, append-assoc}
+use mathlib.Core.Path.{_≡_, sym, ap, _∙_}
+use mathlib.Core.List.{List, [], _∷_, _++_}
 use mathlib.Core.Logic.{⊎-elim}
-use Prim.Native.Nat.{ℕ, zero, suc, _+_, _-_, _*_, _/_, _%_, _^_, _<_, _≤_, min}
+use Prim.Native.Nat.{ℕ, _+_, _-_, _^_, _<_, _≤_}
 use native.Mathlib.Omega.{arith}
-use lib.ListN.{length, getD, take, drop}
-use Rattle.std.specs.shelf.Lists.{joined, All}
-use Rattle.std.proofs.shelf.Lists.{append-nil, append-cancel-left, length-take, length-take-le, getD-take, getD-past}
-use Rattle.std.proofs.shelf.Elements.{all-append, all-take}
+use lib.ListN.{length, getD, take}
+use Rattle.std.specs.shelf.Lists.{joined}
+use Rattle.std.proofs.shelf.Lists.{append-nil, append-cancel-left, length-take-le, getD-take}
+use Rattle.std.proofs.shelf.Elements.{all-append}
 use Rattle.std.proofs.shelf.Tests.{cases-lt}
-use Rattle.std.specs.declared.result.Result.the-variants.{Ok, Err}
-use Rattle.commands.specs.declared.types.Scene.{Scene}
+use Rattle.std.specs.declared.result.Result.the-variants.{Err}
 use Rattle.commands.specs.declared.types.Action.{Action}
 use Rattle.commands.specs.declared.types.Action.the-variants.{Set, Move, Scene as OfScene}
 use Rattle.commands.specs.declared.types.Command.{Command}
 use Rattle.commands.specs.declared.reader.ReadError.the-variants.{CutShort}
-use Rattle.commands.specs.Values.{Valid, ValidAction, ValidScene}
+use Rattle.commands.specs.Values.{Valid, ValidAction}
 use Rattle.commands.specs.Bytes.{bytes2, bytes4, raised, encode, decode, headBytes, actionBytes, sizeAs}
 use Rattle.commands.specs.Laws.{Bytes, PrefixFree, CutIsCut, AreBytes}
 use Rattle.commands.proofs.Decode.{decode-short, decode-cut}

@@ -1,17 +1,13 @@
 -- What `decode` comes to, way by way.
-use mathlib.Core.Path.{_≡_, refl, sym, ap, _∙_}
-use mathlib.Core.Bool.{Bool, true, false, cond, _||_}
-use mathlib.Core.List.{List, [], _∷_, _++_}
-use Prim.Native.Nat.{ℕ, suc, _+_, _-_, _*_, _<_, _≤_}
-use native.Mathlib.Omega.{arith}
+use mathlib.Core.Path.{_≡_, ap, _∙_}
+use mathlib.Core.Bool.{true, false, _||_}
+use mathlib.Core.List.{List}
+use Prim.Native.Nat.{ℕ, _-_, _<_, _≤_}
 use lib.Dec.{eqb, ltb}
 use lib.ListN.{length, getD}
-use Rattle.std.proofs.shelf.Tests.{lt-ltb, le-ltb, ne-eqb, eq-eqb, or-from, or-left, or-right, cond-true, cond-false}
-use Rattle.std.specs.declared.result.Result.{Result}
-use Rattle.std.specs.declared.result.Result.the-variants.{Ok, Err}
-use Rattle.commands.specs.declared.types.Command.{Command}
+use Rattle.std.proofs.shelf.Tests.{lt-ltb, le-ltb, cond-true, cond-false}
+use Rattle.std.specs.declared.result.Result.the-variants.{Err}
 use Rattle.commands.specs.declared.types.Refusal.the-variants.{Kind}
-use Rattle.commands.specs.declared.reader.ReadError.{ReadError}
 use Rattle.commands.specs.declared.reader.ReadError.the-variants.{CutShort, Invalid}
 use Rattle.commands.specs.Bytes.{decode, sizeAs, readAs, commandAt}
 

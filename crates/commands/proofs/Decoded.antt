@@ -1,26 +1,24 @@
 -- Only valid commands are read, and the bytes that were read are just those of the command.
 use mathlib.Core.Path.{_≡_, refl, sym, ap, subst, _∙_}
-use mathlib.Core.Bool.{Bool, true, false, cond, _||_}
-use mathlib.Core.List.{List, [], _∷_, _++_, append-assoc}
-use mathlib.Core.Logic.{_⊎_, inl, inr, ⊎-elim}
+use mathlib.Core.Bool.{true, false, cond, _||_}
+use mathlib.Core.List.{List, [], _∷_, _++_}
+use mathlib.Core.Logic.{_⊎_, ⊎-elim}
 use Prim.Native.Nat.{ℕ, zero, suc, _+_, _-_, _*_, _^_, _<_, _≤_}
 use native.Mathlib.Omega.{arith}
 use lib.Dec.{eqb, ltb}
-use lib.ListN.{length, getD, take, drop, replicate}
+use lib.ListN.{length, getD, take, replicate}
 use Rattle.std.specs.shelf.Lists.{joined, All}
 use Rattle.std.proofs.shelf.Lists.{take-at}
 use Rattle.std.proofs.shelf.Tests.{true≢false, cases-lt, cases-bool, lt-ltb, or-parts, cond-both}
 use Rattle.std.specs.declared.result.Result.{Result}
 use Rattle.std.specs.declared.result.Result.the-variants.{Ok, Err}
-use Rattle.commands.specs.declared.types.MemberId.{MemberId}
 use Rattle.commands.specs.declared.types.Channel.{Channel}
 use Rattle.commands.specs.declared.types.Action.{Action}
 use Rattle.commands.specs.declared.types.Action.the-variants.{Set, Move, Scene as OfScene}
 use Rattle.commands.specs.declared.types.Command.{Command}
 use Rattle.commands.specs.declared.types.Refusal.{Refusal}
 use Rattle.commands.specs.declared.reader.ReadError.{ReadError}
-use Rattle.commands.specs.declared.reader.ReadError.the-variants.{CutShort, Invalid}
-use Rattle.commands.specs.Values.{Valid, ValidAction, ValidScene, andThen, memberOr, channelOr, countOr, commandOr, padded}
+use Rattle.commands.specs.Values.{Valid, ValidAction, andThen, memberOr, channelOr, countOr, padded}
 use Rattle.commands.specs.Bytes.{bytes2, bytes4, at2, at4, listAt, raised, lowered, encode, decode, headBytes, actionBytes, sizeAs, actionAs, commandAt, readAs}
 use Rattle.commands.specs.Laws.{Bytes, OnlyValid}
 use Rattle.commands.proofs.Digits.{raised-lowered, lowered-fits}

@@ -1,25 +1,22 @@
 -- What is written is read back.
-use mathlib.Core.Path.{_≡_, refl, sym, ap, subst, _∙_}
-use mathlib.Core.Bool.{Bool, true, false, cond, _||_}
+use mathlib.Core.Path.{_≡_, refl, sym, ap, _∙_}
+use mathlib.Core.Bool.{false, _||_}
 use mathlib.Core.List.{List, [], _∷_, _++_, append-assoc}
-use Prim.Native.Nat.{ℕ, zero, suc, _+_, _-_, _*_, _/_, _%_, _^_, _<_, _≤_}
+use Prim.Native.Nat.{ℕ, _+_, _-_, _*_, _/_, _%_, _^_, _<_, _≤_}
 use native.Mathlib.Omega.{arith}
 use lib.Dec.{eqb, ltb}
-use lib.IntN.{ℤ}
-use lib.ListN.{length, getD, take, drop, replicate}
+use lib.ListN.{length, getD, take}
 use Rattle.std.specs.shelf.Lists.{joined, All}
 use Rattle.std.proofs.shelf.Lists.{length-append, length-push, take-append-drop, length-take-le, getD-at}
 use Rattle.std.proofs.shelf.Elements.{all-take}
-use Rattle.std.specs.declared.result.Result.{Result}
-use Rattle.std.specs.declared.result.Result.the-variants.{Ok, Err}
+use Rattle.std.specs.declared.result.Result.the-variants.{Ok}
 use Rattle.commands.specs.declared.types.MemberId.{MemberId}
 use Rattle.commands.specs.declared.types.Scene.{Scene}
 use Rattle.commands.specs.declared.types.Action.{Action}
 use Rattle.commands.specs.declared.types.Action.the-variants.{Set, Move, Scene as OfScene}
 use Rattle.commands.specs.declared.types.Command.{Command}
-use Rattle.commands.specs.declared.types.Refusal.{Refusal}
-use Rattle.commands.specs.Values.{Valid, ValidAction, ValidScene, andThen, memberOr, channelOr, countOr, commandOr, padded}
-use Rattle.commands.specs.Bytes.{bytes2, bytes4, at2, at4, listAt, raised, lowered, encode, decode, headBytes, actionBytes, sizeAs, actionAs, commandAt, readAs}
+use Rattle.commands.specs.Values.{Valid, ValidAction, ValidScene, channelOr, commandOr, padded}
+use Rattle.commands.specs.Bytes.{bytes2, at2, listAt, raised, lowered, encode, decode, headBytes, actionBytes, sizeAs, actionAs, commandAt, readAs}
 use Rattle.commands.specs.Laws.{ReadsBack}
 use Rattle.commands.proofs.Digits.{number2, number4, lowered-raised, raised-fits}
 use Rattle.commands.proofs.Judged.{member-ok, channel-ok, count-ok, command-ok, then-ok}

@@ -1,11 +1,10 @@
 -- What the judgements of values come to: a value that can be is passed on, and what was passed on can be.
 use mathlib.Core.Path.{_≡_, refl, sym, ap, _∙_}
 use mathlib.Core.Bool.{Bool, true, false, cond, _&&_}
-use mathlib.Core.List.{List, [], _∷_, _++_}
-use Prim.Native.Nat.{ℕ, _≤_, _<_}
+use Prim.Native.Nat.{ℕ, _≤_}
 use native.Mathlib.Omega.{arith}
 use lib.Dec.{eqb, leb}
-use Rattle.std.proofs.shelf.Tests.{le-leb, leb-true, ne-eqb, eqb-false, and-from, and-parts, cases-bool, cond-true, cond-false}
+use Rattle.std.proofs.shelf.Tests.{le-leb, leb-true, ne-eqb, eqb-false, and-from, and-parts, cond-true, cond-false}
 use Rattle.std.specs.declared.result.Result.{Result}
 use Rattle.std.specs.declared.result.Result.the-variants.{Ok, Err}
 use Rattle.commands.specs.declared.types.MemberId.{MemberId}

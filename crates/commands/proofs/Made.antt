@@ -1,24 +1,22 @@
 -- What the makers make is valid.
 use mathlib.Core.Path.{_≡_, refl, sym, ap, subst, _∙_}
 use mathlib.Core.Bool.{Bool, true, false, cond}
-use mathlib.Core.List.{List, [], _∷_, _++_}
-use Prim.Native.Nat.{ℕ, zero, suc, _+_, _-_, _^_, _<_, _≤_}
+use mathlib.Core.List.{List, [], _∷_}
+use Prim.Native.Nat.{ℕ, zero, suc, _-_, _^_, _<_, _≤_}
 use native.Mathlib.Omega.{arith}
 use lib.Dec.{leb}
-use lib.ListN.{length, drop, replicate}
+use lib.ListN.{length, replicate}
 use Rattle.std.specs.shelf.Lists.{All}
 use Rattle.std.proofs.shelf.Lists.{length-append, length-replicate, drop-at}
 use Rattle.std.proofs.shelf.Elements.{all-append}
-use Rattle.std.proofs.shelf.Tests.{cases-bool, leb-true, cond-true, cond-false}
+use Rattle.std.proofs.shelf.Tests.{leb-true}
 use Rattle.std.specs.declared.option.Option.{Option}
 use Rattle.std.specs.declared.option.Option.the-variants.{Some, None}
-use Rattle.std.specs.declared.result.Result.{Result}
-use Rattle.std.specs.declared.result.Result.the-variants.{Ok, Err}
+use Rattle.std.specs.declared.result.Result.the-variants.{Ok}
 use Rattle.commands.specs.declared.types.Channel.{Channel}
 use Rattle.commands.specs.declared.types.Action.{Action}
 use Rattle.commands.specs.declared.types.Action.the-variants.{Set, Move, Scene as OfScene}
-use Rattle.commands.specs.declared.types.Refusal.{Refusal}
-use Rattle.commands.specs.Values.{Valid, ValidAction, ValidScene, andThen, memberOr, channelOr, levelOr, countOr, firstHigh, unlessHigh, padded, setOr, sceneOr}
+use Rattle.commands.specs.Values.{Valid, ValidAction, ValidScene, channelOr, levelOr, countOr, firstHigh, unlessHigh, padded, setOr, sceneOr}
 use Rattle.commands.specs.Laws.{Makers}
 use Rattle.commands.proofs.Judged.{member-is, channel-is, level-is, count-is, command-is, then-is}
 

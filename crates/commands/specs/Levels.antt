@@ -3,7 +3,6 @@ use mathlib.Core.List.{List, [], _∷_}
 use Prim.Native.Nat.{ℕ, suc, _+_, _-_, min}
 use lib.ListN.{getD, set, take}
 use lib.IntN.{ℤ, pos, negsuc}
-use Rattle.commands.specs.declared.types.Scene.{Scene}
 use Rattle.commands.specs.declared.types.Action.{Action}
 use Rattle.commands.specs.declared.types.Action.the-variants.{Set, Move, Scene as OfScene}
 

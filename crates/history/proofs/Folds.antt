@@ -3,8 +3,7 @@ use mathlib.Core.Path.{_≡_, refl, sym, ap, _∙_}
 use mathlib.Core.List.{List, [], _∷_, _++_}
 use Prim.Native.Nat.{ℕ, suc, _+_, _%_, _^_}
 use native.Mathlib.Omega.{arith}
-use lib.ListN.{length, replicate, set, take}
-use lib.IntN.{ℤ}
+use lib.ListN.{length, set, take}
 use Rattle.std.proofs.shelf.Lists.{length-set, length-replicate}
 use Rattle.commands.specs.declared.types.Action.{Action}
 use Rattle.commands.specs.declared.types.Action.the-variants.{Set, Move, Scene as OfScene}

@@ -1,7 +1,7 @@
 -- What a member has done, in order, and what that makes: levels, count and digest.
 use mathlib.Core.List.{List, [], _∷_, _++_}
 use Prim.Native.Nat.{ℕ, _+_, _%_, _^_}
-use lib.ListN.{length, replicate}
+use lib.ListN.{replicate}
 use Rattle.commands.specs.declared.types.Command.{Command}
 use Rattle.commands.specs.Levels.{applied}
 use Rattle.commands.specs.Bytes.{encode, bytes4}

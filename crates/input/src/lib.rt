@@ -2,7 +2,7 @@
 ghost use mathlib.Core.Path.{_≡_};
 ghost use mathlib.Core.Bool.{cond};
 ghost use mathlib.Core.List.{_++_};
-ghost use Prim.Native.Nat.{ℕ, _<_, _≤_};
+ghost use Prim.Native.Nat.{ℕ, _<_};
 ghost use lib.Dec.{leb};
 ghost use lib.ListN.{length, getD};
 ghost use Rattle.std.specs.Of.Vec.{vec-items, vec-len};
@@ -11,9 +11,7 @@ ghost use Rattle.std.specs.Vec.{made};
 use std::alloc::AllocError;
 use std::io;
 use std::io::BufRead;
-
-// How long a line may be, in bytes.
-pub const LONGEST: usize = 12000000;
+use text::LONGEST;
 
 // Where the line ends in what has been read.
 fn line_end(held: &[u8]) -> Option<usize>

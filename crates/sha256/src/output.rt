@@ -1,7 +1,7 @@
 // The digest's bytes.
 ghost use mathlib.Core.Path.{_≡_};
 ghost use mathlib.Core.List.{_++_};
-ghost use Prim.Native.Nat.{ℕ, _+_, _≤_};
+ghost use Prim.Native.Nat.{_+_, _≤_};
 ghost use lib.ListN.{take, drop};
 ghost use Rattle.sha256.specs.Sha256.{wordBytes, hashBytes};
 use crate::rounds::State;

@@ -1,7 +1,7 @@
 // The end of a message: the bytes behind its last whole block, padded to one block or two.
 ghost use mathlib.Core.Path.{_≡_};
 ghost use mathlib.Core.List.{_∷_, _++_};
-ghost use Prim.Native.Nat.{ℕ, _+_, _-_, _*_, _/_, _%_, _^_, _<_};
+ghost use Prim.Native.Nat.{_+_, _-_, _*_, _/_, _%_, _^_, _<_};
 ghost use lib.ListN.{length, replicate};
 ghost use Rattle.sha256.specs.Sha256.{zeroBytes, LeastZeros, longBytes, padding, initialHash, hashed, sha256};
 use crate::output::to_bytes;

@@ -1,6 +1,6 @@
 // The compression function: 64 rounds over a block's schedule, and the hash value that they change.
 ghost use mathlib.Core.Path.{_≡_};
-ghost use Prim.Native.Nat.{ℕ, _+_, _/_, _<_, _≤_};
+ghost use Prim.Native.Nat.{_+_, _/_, _<_, _≤_};
 ghost use lib.ListN.{length, getD};
 ghost use Rattle.sha256.specs.Sha256.{roundConstants, initialHash, oneRound, afterRounds, addHash, nextHash, hashed};
 use crate::schedule::schedule;

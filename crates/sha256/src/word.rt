@@ -1,6 +1,5 @@
 // The functions on 32-bit words that the hash is made of.
 ghost use mathlib.Core.Path.{_≡_};
-ghost use Prim.Native.Nat.{ℕ};
 ghost use Rattle.sha256.specs.Words.{choose, majority, bigSigma0, bigSigma1, smallSigma0, smallSigma1};
 
 // Each bit of y where x has a 1, of z where x has a 0.

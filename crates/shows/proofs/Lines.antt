@@ -1,10 +1,8 @@
 -- A line of a show, by its length and by what its words say.
 use mathlib.Core.Path.{_≡_, sym, subst}
-use mathlib.Core.Bool.{Bool}
 use mathlib.Core.List.{List, _++_}
 use Prim.Native.Nat.{ℕ, _<_, _≤_}
 use lib.Chars.{codes}
-use lib.Dec.{leb}
 use lib.ListN.{length}
 use Rattle.std.specs.Orderings.{When}
 use Rattle.std.proofs.shelf.Tests.{le-leb, lt-leb}

@@ -12,7 +12,6 @@ use crate::answers::push_line;
 use commands::types::Action;
 use commands::types::MemberId;
 use commands::types::Refusal;
-use input::LONGEST;
 use reading::unreadable::ReadError;
 use reading::unreadable::Reason;
 use requests::asked;
@@ -21,6 +20,7 @@ use sha256::digest;
 use stage::Stage;
 use std::alloc::AllocError;
 use std::alloc::Global;
+use text::LONGEST;
 
 // The one desk that plays, by its number.
 #[derive(Drop)]

@@ -1,12 +1,12 @@
 -- Commands delivered one after another.
-use mathlib.Core.Path.{_≡_, refl, sym, ap, _∙_}
-use mathlib.Core.List.{List, [], _∷_, _++_}
+use mathlib.Core.Path.{_≡_}
+use mathlib.Core.List.{List}
 use Prim.Native.Nat.{ℕ, _+_, _<_, _≤_}
 use lib.ListN.{length, getD, drop}
 use Rattle.std.proofs.shelf.Lists.{at-drop-more, at-drop-all}
 use Rattle.commands.specs.declared.types.Command.{Command}
 use Rattle.history.specs.declared.Record.{Record}
-use Rattle.history.specs.History.{Event, Delivered, levelsAfter, recordAfter, levelsFrom, recordFrom}
+use Rattle.history.specs.History.{Delivered, levelsAfter, recordAfter, levelsFrom, recordFrom}
 use Rattle.stage.specs.Stage.{deliveries}
 
 module _ (cs : List Command) (k : ℕ) (d : Command) (h : k < length cs) where

@@ -1,7 +1,7 @@
 // One member alone on the stage: it issues commands, which wait until it settles, and delivers them through its history.
 ghost use mathlib.Core.Path.{_≡_};
 ghost use mathlib.Core.Bool.{true, false};
-ghost use mathlib.Core.List.{List, []};
+ghost use mathlib.Core.List.{[]};
 ghost use Rattle.std.specs.Of.Vec.{vec-items};
 ghost use Rattle.std.specs.Vec.{made};
 ghost use Rattle.history.specs.History.{levelsFrom, recordFrom};

@@ -4,7 +4,6 @@ use native.Mathlib.Omega.{arith}
 use borrow.Author.Needs.{needs}
 use lib.ListN.{length, set, drop}
 use borrow.Rule.Slice.PartMut.{putMid}
-use Rattle.commands.specs.Bytes.{bytes4}
 use Rattle.history.proofs.Frames.{framed-whole}
 use Rattle.history.proofs.put_entry.Needs as need
 

@@ -1,7 +1,7 @@
-use mathlib.Core.Path.{_≡_, ap, sym, _∙_}
+use mathlib.Core.Path.{ap, sym, _∙_}
 use Prim.Native.Nat.{_+_}
 use native.Mathlib.Omega.{arith}
-use lib.ListN.{getD, drop}
+use lib.ListN.{drop}
 use Rattle.history.specs.History.{levelsFrom, recordFrom}
 use Rattle.stage.specs.Stage.{deliveries}
 use Rattle.stage.proofs.Deliveries.{record-step, levels-step, record-end, levels-end}

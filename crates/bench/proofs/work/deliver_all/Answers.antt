@@ -1,11 +1,10 @@
 use mathlib.Core.Path.{_≡_, ap, sym, _∙_}
 use mathlib.Core.List.{List, [], _∷_, _++_, map}
 use Prim.Native.Nat.{ℕ, _+_, _<_}
-use native.Mathlib.Omega.{arith}
 use lib.ListN.{take, getD, length}
 use Rattle.std.proofs.shelf.Lists.{take-all, take-more, map-append}
 use Rattle.commands.specs.declared.types.Command.{Command}
-use Rattle.history.specs.History.{Event, Delivered, levelsOf, recordOf}
+use Rattle.history.specs.History.{Delivered, levelsOf, recordOf}
 use Rattle.bench.proofs.work.deliver_all.Needs as need
 
 delivered-more : (cs : List Command) (i : ℕ) (c : Command) → i < length cs → map Delivered (take (i + 1) cs) ≡ map Delivered (take i cs) ++ (Delivered (getD cs i c) ∷ [])

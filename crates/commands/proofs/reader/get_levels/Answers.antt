@@ -1,11 +1,8 @@
-use mathlib.Core.Path.{_≡_, refl, ap, sym, _∙_}
-use mathlib.Core.List.{_++_}
-use Prim.Native.Nat.{ℕ, _-_}
+use mathlib.Core.Path.{_≡_, refl}
+use Prim.Native.Nat.{_-_}
 use native.Mathlib.Numerals.{add-one}
 use native.Mathlib.Omega.{arith}
-use lib.ListN.{replicate}
 use Rattle.commands.specs.Bytes.{listAt}
-use Rattle.commands.specs.Values.{padded}
 use Rattle.commands.proofs.Places.{place-more}
 use Rattle.commands.proofs.Numbers.{length-listAt, listAt-more}
 use Rattle.commands.proofs.reader.get_levels.Needs as need

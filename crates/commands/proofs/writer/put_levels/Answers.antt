@@ -1,10 +1,8 @@
 use mathlib.Core.Path.{_≡_, refl, ap, sym, _∙_}
-use Prim.Native.Nat.{ℕ, _<_, _≤_, min}
 use native.Mathlib.Omega.{arith}
-use borrow.Author.Needs.{needs}
 use lib.ListN.{length, take}
 use Rattle.std.specs.shelf.Lists.{joined}
-use Rattle.std.proofs.shelf.Lists.{length-take, take-all, take-take}
+use Rattle.std.proofs.shelf.Lists.{length-take}
 use Rattle.commands.specs.Bytes.{bytes2, over}
 use Rattle.commands.proofs.Writes.{over-none, level-over, take-length}
 use Rattle.commands.proofs.writer.put_levels.Needs as need

@@ -1,10 +1,9 @@
 use mathlib.Core.Path.{refl}
 use Rattle.std.specs.Of.Vec.{vec-items}
 use Rattle.std.proofs.shelf.Parts.{pushed}
-use mathlib.Core.Path.{sym, ap, _∙_, _≡_}
+use mathlib.Core.Path.{ap, _∙_}
 use mathlib.Core.List.{_++_}
 use lib.Chars.{codes}
-use Rattle.shows.specs.Texts.{whyText}
 use Rattle.shows.proofs.Chains.{three}
 use Rattle.shows.proofs.answers.push_cannot.Needs as need
 

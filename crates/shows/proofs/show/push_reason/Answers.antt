@@ -1,4 +1,4 @@
-use mathlib.Core.Path.{refl, _∙_}
+use mathlib.Core.Path.{_∙_}
 use mathlib.Core.List.{_++_, append-assoc}
 use lib.Chars.{codes}
 use Rattle.std.specs.Of.Vec.{vec-items}

@@ -1,7 +1,5 @@
 use mathlib.Core.Path.{_≡_, refl, ap, sym, _∙_}
-use mathlib.Core.Bool.{cond}
 use native.Mathlib.Omega.{arith}
-use Prim.Native.Nat.{ℕ}
 use lib.ListN.{length}
 use Rattle.std.proofs.shelf.Lists.{refilled-is}
 use Rattle.std.proofs.shelf.Tests.{cond-true, cond-false}

@@ -1,13 +1,11 @@
-use mathlib.Core.Path.{_≡_, refl, ap, sym, _∙_}
-use mathlib.Core.Bool.{true, false, _||_}
+use mathlib.Core.Path.{refl, ap, sym, _∙_}
 use native.Mathlib.Omega.{arith}
-use borrow.Author.Needs.{needs}
 use lib.Dec.{eqb, ltb}
 use lib.ListN.{getD}
 use Rattle.std.proofs.shelf.Tests.{lt-ltb, le-ltb, ne-eqb, eq-eqb, or-from, or-left, or-right}
 use mathlib.Core.Logic.{⊎-elim}
-use Rattle.std.specs.declared.result.Result.the-variants.{Ok, Err}
-use Rattle.commands.specs.Bytes.{readAs, sizeAs, commandAt}
+use Rattle.std.specs.declared.result.Result.the-variants.{Ok}
+use Rattle.commands.specs.Bytes.{readAs, sizeAs}
 use Rattle.commands.proofs.Decode.{decode-short, decode-unknown, decode-cut, decode-whole}
 use Rattle.commands.proofs.types.Command.read.Needs as need
 

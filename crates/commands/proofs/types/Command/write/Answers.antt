@@ -1,10 +1,9 @@
 use mathlib.Core.Path.{_≡_, refl, ap, sym, _∙_}
-use mathlib.Core.Bool.{cond, true, false}
+use mathlib.Core.Bool.{true, false}
 use native.Mathlib.Omega.{arith}
-use lib.ListN.{length}
 use Rattle.std.specs.declared.option.Option.the-variants.{Some}
 use Rattle.std.proofs.shelf.Tests.{le-leb, lt-leb, cond-true, cond-false}
-use Rattle.commands.specs.Bytes.{encode, over, fits}
+use Rattle.commands.specs.Bytes.{encode, fits}
 use Rattle.commands.proofs.Writes.{chained, length-encode}
 use Rattle.commands.proofs.types.Command.write.Needs as need
 
