@@ -1,4 +1,6 @@
 // The work that ./bench measures: one long message hashed, and a long run of commands delivered. tools/plain.rs does the same in plain Rust.
+#![tactic(auto)]
+
 mod work;
 
 use anyhow::anyhow;

@@ -1,4 +1,6 @@
 // Bytes in hexadecimal: two digits a byte, read in either case and written in lower case.
+#![tactic(auto)]
+
 ghost use Rattle.std.specs.Prelude.{◌≡◌, ◌%◌, ◌<◌, true, ◌++◌, length, take, is_ok, if◌then◌else◌};
 ghost use Rattle.hexadecimal.specs.declared.HexError.TheVariants.{Memory};
 ghost use Rattle.hexadecimal.specs.Hex.{hex_digit, hex_value, hex_of, byte_of, ReadsBack};

@@ -1,4 +1,6 @@
 // A member's history: what it has done, kept as the levels, a count and a digest that its commands and views make.
+#![tactic(auto)]
+
 pub mod laws;
 
 ghost use Rattle.std.specs.Prelude.{◌≡◌, ◌≤◌, List, [], ◌∷◌, ◌++◌, length, take};

@@ -1,4 +1,6 @@
 // The lines of a stream. What is read is in no contract; what is kept of it is.
+#![tactic(auto)]
+
 ghost use Rattle.std.specs.Prelude.{◌≡◌, ℕ, ◌<◌, ◌++◌, length, if◌then◌else◌, vec_len, MatchOption, OnOk, ◌≢◌, nat_le, slice_index};
 
 use std::alloc::AllocError;

@@ -1,2 +1,4 @@
 // Why a line cannot be read.
+#![tactic(auto)]
+
 pub mod unreadable;

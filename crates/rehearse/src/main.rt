@@ -1,4 +1,6 @@
 // Plays shows: reads their lines, has each carried out, and prints what is answered.
+#![tactic(auto)]
+
 use input::read_line;
 use shows::show::play_line;
 use std::io::{BufRead, BufReader, BufWriter, Write};

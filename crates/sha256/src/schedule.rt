@@ -1,7 +1,7 @@
 // The message schedule: the 64 words that the rounds over one block take in.
 ghost use Rattle.std.specs.Prelude.{◌≡◌, ℕ, ◌+◌, ◌-◌, ◌*◌, ◌<◌, ◌≤◌, List, length, take, slice_index, slice_set};
 ghost use Rattle.sha256.specs.Sha256.{message_word, later_word};
-ghost use Rattle.sha256.specs.Sha256.{schedule as scheduleOf};
+ghost use Rattle.sha256.specs.Sha256.{schedule as schedule_of};
 
 use crate::word::{small_sigma0, small_sigma1};
 
@@ -35,7 +35,7 @@ fn put_word(w: &mut [u32], t: usize)
 // Eight words from word t on, behind those before them. They are written out for speed: most of what a word is made of is then still at hand.
 fn put_eight(w: &mut [u32], t: usize)
     requires { (16 ≤ t) × (t + 8 ≤ length w.old) }
-    ensures { (block : List ℕ) → take t w.old ≡ scheduleOf block t → take (t + 8) w.new ≡ scheduleOf block (t + 8) }
+    ensures { (block : List ℕ) → take t w.old ≡ schedule_of block t → take (t + 8) w.new ≡ schedule_of block (t + 8) }
 {
     put_word(w, t);
     put_word(w, t + 1);
@@ -50,7 +50,7 @@ fn put_eight(w: &mut [u32], t: usize)
 // The whole schedule of a block: its own 16 words, and 48 that follow from them.
 pub(crate) fn schedule(block: &[u8]) -> [u32; 64]
     requires { length block.now ≡ 64 }
-    ensures { result ≡ scheduleOf block.now 64 }
+    ensures { result ≡ schedule_of block.now 64 }
 {
     let mut w = [0u32; 64];
     'message: for t in 0..16 {

@@ -1,4 +1,6 @@
 // One member alone on the stage: it issues commands, which wait until it settles, and delivers them through its history.
+#![tactic(auto)]
+
 ghost use Rattle.std.specs.Prelude.{◌≡◌, true, false, [], IfOk};
 ghost use Rattle.history.specs.History.{levels_from, record_from};
 ghost use Rattle.stage.specs.Stage.{error_number, deliveries, Stands, Issued, Settled, level_of};

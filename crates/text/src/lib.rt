@@ -1,4 +1,6 @@
 // The text of the programs' lines: words, numbers and steps, read from bytes and written to bytes.
+#![tactic(auto)]
+
 pub mod numbers;
 pub mod words;
 

@@ -1,4 +1,6 @@
 // The published vectors of SHA-256, run as tests. In a crate of their own, since a crate with tests is proved twice.
+#![tactic(auto)]
+
 #[cfg(test)]
 mod tests {
     // The published vectors.

@@ -7,21 +7,21 @@ use Rattle.hexadecimal.proofs.decode.Goals as goal
 pub loop-i-init : goal.loop-i-init
 loop-i-init c = (omega arith, refl, kept_none _, refl)
 
-pub returns-in-default : goal.returns-in-default
-returns-in-default c =
+pub returns-in_default : goal.returns-in_default
+returns-in_default c =
     let more : c.loop-i.i + 1 < length c.args.word.now = omega arith in
-    let stops = bytes_stops (vec_items c.loop-i.out) _ _ more (sym c.byte-of.ensures ∙ c.in-default.is) in
+    let stops = bytes_stops (vec_items c.loop-i.out) _ _ more (sym c.byte_of.ensures ∙ c.in_default.is) in
     ((c.requires, from_onto _ _ (sym c.loop-i.invariant.3 ∙ stops)), c.loop-i.invariant.2)
 
 pub loop-i-preserved : goal.loop-i-preserved
 loop-i-preserved c =
-    let long = c.in-ok-push.ensures.items in
+    let long = c.in_ok-push.ensures.items in
     let more : c.loop-i.i + 1 < length c.args.word.now = omega arith in (
       omega arith,
       omega arith,
       ap (take (length (vec_items c.args.out.now))) long ∙ kept_more _ _ _ c.loop-i.invariant.2,
       ap (λ l. onto l (bytes_of (drop (c.loop-i.i + 2) c.args.word.now))) long
-          ∙ bytes_more _ _ _ _ more (sym c.byte-of.ensures ∙ c.in-Some.is)
+          ∙ bytes_more _ _ _ _ more (sym c.byte_of.ensures ∙ c.in-Some.is)
           ∙ c.loop-i.invariant.3,
     )
 

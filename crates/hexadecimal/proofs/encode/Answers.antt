@@ -8,8 +8,8 @@ loop-b-init c = (kept_none _, refl)
 
 pub loop-b-preserved : goal.loop-b-preserved
 loop-b-preserved c =
-    let long = c.in-ok-extend-from-slice.ensures.items in
-    let pair = ap (λ d. d ∷ c.digit-of-in-loop-b.result ∷ []) c.digit-of.ensures ∙ ap (λ d. hex_digit (get_or c.args.bytes.now c.loop-b.b-index 0 / 16) ∷ d ∷ []) c.digit-of-in-loop-b.ensures in
+    let long = c.in_ok-extend_from_slice.ensures.items in
+    let pair = ap (λ d. d ∷ c.digit_of-in-loop-b.result ∷ []) c.digit_of.ensures ∙ ap (λ d. hex_digit (get_or c.args.bytes.now c.loop-b.b-index 0 / 16) ∷ d ∷ []) c.digit_of-in-loop-b.ensures in
     let grown = long ∙ ap (λ l. vec_items c.loop-b.out ++ l) pair in (
       ap (take (length (vec_items c.args.out.now))) long ∙ kept_more _ _ _ c.loop-b.invariant.0,
       ap (λ l. l ++ hex_of (drop (c.loop-b.b-index + 1) c.args.bytes.now)) grown ∙ hex_more _ _ _ c.loop-b-test.true ∙ c.loop-b.invariant.1,

@@ -4,8 +4,8 @@ use Rattle.commands.specs.Bytes.{action_bytes, over, bytes4, raised}
 use Rattle.commands.proofs.Writes.{chained, length-levels}
 use Rattle.commands.proofs.writer.put_action.Goals as goal
 
-pub put-levels-requires : goal.put-levels-requires
-put-levels-requires c =
+pub put_levels-requires : goal.put_levels-requires
+put_levels-requires c =
     let e = ap (λ a. length (action_bytes a)) c.in-Scene.is in
     let n = length-levels (take c.in-Scene.scene.count c.in-Scene.scene.levels) in
     omega arith
@@ -28,5 +28,5 @@ returns-in-Scene c =
     let o = c.args.out.now in
     chained o c.put1-in-Scene-2.new.out _ _ _ 13 17 (omega arith) refl
     (chained o c.put2-in-Scene.new.out _ _ _ 13 16 (omega arith) refl (chained o c.put1-in-Scene.new.out _ _ _ 13 14 (omega arith) refl c.put1-in-Scene.ensures c.put2-in-Scene.ensures) c.put1-in-Scene-2.ensures)
-    c.put-levels.ensures
+    c.put_levels.ensures
     ∙ ap (λ a. over o 13 (action_bytes a)) (sym c.in-Scene.is)

@@ -15,7 +15,7 @@ pub loop-k-preserved : goal.loop-k-preserved
 loop-k-preserved c =
     let s = c.args.scene.now in
     let n = length-take s.count s.levels in
-    let e = c.level-count-k-end.ensures.value in
+    let e = c.level_count-k-end.ensures.value in
     c.put2.ensures ∙ level_over c.args.out.now c.loop-k.out s.levels c.loop-k.k _ 17 _ (omega arith) (omega arith) refl refl c.loop-k.invariant
 
 pub returns : goal.returns

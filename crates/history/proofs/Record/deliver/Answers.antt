@@ -7,7 +7,7 @@ use Rattle.history.proofs.Record.deliver.Goals as goal
 pub returns : goal.returns
 returns c =
     let event = Delivered c.args.command.now in
-    let value = ap (λ d. let r : Record = record { count = (c.args.self.count + 1) % 2 ^ 64; digest = d } in r) c.delivery-digest.ensures in
+    let value = ap (λ d. let r : Record = record { count = (c.args.self.count + 1) % 2 ^ 64; digest = d } in r) c.delivery_digest.ensures in
     record {
       value = value;
       after = c.apply.ensures;

@@ -7,7 +7,7 @@ use Rattle.history.proofs.Record.enter.Goals as goal
 pub returns : goal.returns
 returns c =
     let event = Entered c.args.view in
-    let value = ap (λ d. let r : Record = record { count = (c.args.self.count + 1) % 2 ^ 64; digest = d } in r) c.entry-digest.ensures in
+    let value = ap (λ d. let r : Record = record { count = (c.args.self.count + 1) % 2 ^ 64; digest = d } in r) c.entry_digest.ensures in
     record {
       value = value;
       history = λ es r. (value ∙ ap (λ x. record_after x event) r ∙ sym (record_more es event), levels_more es event);

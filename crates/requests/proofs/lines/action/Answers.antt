@@ -5,9 +5,9 @@ use Rattle.reading.specs.Meaning.{Refuses}
 use Rattle.requests.proofs.Chain.{at_name, past_name, tells}
 use Rattle.requests.proofs.lines.action.Goals as goal
 
-pub returns-in-default : goal.returns-in-default
+pub returns-in_default : goal.returns-in_default
 unfolding action_said Refuses
-returns-in-default c = ap action_said c.in-default.ensures.0
+returns-in_default c = ap action_said c.in_default.ensures.0
 
 pub returns-then-is : goal.returns-then-is
 unfolding action_said

@@ -4,9 +4,9 @@ use Rattle.requests.specs.Meaning.{meant}
 use Rattle.requests.proofs.Chain.{tells}
 use Rattle.requests.proofs.lines.read.Goals as goal
 
-pub returns-in-default : goal.returns-in-default
+pub returns-in_default : goal.returns-in_default
 unfolding said
-returns-in-default c = ap said (sym c.of-rest.ensures ∙ c.in-default.ensures.0)
+returns-in_default c = ap said (sym c.of-rest.ensures ∙ c.in_default.ensures.0)
 
 pub returns : goal.returns
 unfolding said

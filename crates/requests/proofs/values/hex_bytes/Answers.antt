@@ -10,4 +10,4 @@ returns-in-Ok c =
     hex_reads _ _ h.0 (from_nothing _ _ _ c.new-all.ensures.items h.1)
 
 pub returns : goal.returns
-returns c = subst (Refuses (hex_said c.args.word.now)) (sym c.hex-error.ensures) (hex_refuses c.args.word _ c.in-Err.ensures.0)
+returns c = subst (Refuses (hex_said c.args.word.now)) (sym c.hex_error.ensures) (hex_refuses c.args.word _ c.in-Err.ensures.0)

@@ -5,13 +5,13 @@ use Rattle.reading.specs.Meaning.{Refuses}
 use Rattle.requests.proofs.Chain.{numeral_some, numeral_none}
 use Rattle.requests.proofs.values.take_number.Goals as goal
 
-pub returns-in-default : goal.returns-in-default
+pub returns-in_default : goal.returns-in_default
 unfolding a_number Refuses
-returns-in-default c = ap (a_numeral number_of) c.in-default.ensures.0
+returns-in_default c = ap (a_numeral number_of) c.in_default.ensures.0
 
-pub returns-in-default-number : goal.returns-in-default-number
+pub returns-in_default-number : goal.returns-in_default-number
 unfolding a_number Refuses
-returns-in-default-number c = numeral_none number_of _ _ _ c.in-Some.ensures.0 (sym c.number.ensures ∙ c.in-default-number.is)
+returns-in_default-number c = numeral_none number_of _ _ _ c.in-Some.ensures.0 (sym c.number.ensures ∙ c.in_default-number.is)
 
 pub returns : goal.returns
 unfolding a_number

@@ -8,13 +8,13 @@ use Rattle.reading.specs.Meaning.{Refuses}
 use Rattle.requests.proofs.Chain.{numeral_some, numeral_none}
 use Rattle.requests.proofs.values.take_step.Goals as goal
 
-pub returns-in-default : goal.returns-in-default
+pub returns-in_default : goal.returns-in_default
 unfolding a_step Refuses
-returns-in-default c = ap (a_numeral step_of) c.in-default.ensures.0
+returns-in_default c = ap (a_numeral step_of) c.in_default.ensures.0
 
-pub returns-in-default-step : goal.returns-in-default-step
+pub returns-in_default-step : goal.returns-in_default-step
 unfolding a_step Refuses
-returns-in-default-step c = numeral_none step_of _ _ _ c.in-Some.ensures.0 (sym c.step.ensures ∙ c.in-default-step.is)
+returns-in_default-step c = numeral_none step_of _ _ _ c.in-Some.ensures.0 (sym c.step.ensures ∙ c.in_default-step.is)
 
 pub returns : goal.returns
 unfolding a_step

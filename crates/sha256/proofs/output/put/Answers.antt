@@ -7,10 +7,10 @@ pub returns : goal.returns
 unfolding word_bytes
 returns c = record {
   front =
-      take-put_mid c.args.at (c.args.at + 4 - c.args.at) c.args.out c.copy-from-slice.new.self (c.args.at + 4)
+      take-put_mid c.args.at (c.args.at + 4 - c.args.at) c.args.out c.copy_from_slice.new.self (c.args.at + 4)
       (omega arith) (omega arith)
-      ∙ ap (λ (xs : List ℕ). take c.args.at c.args.out ++ xs) (c.copy-from-slice.ensures.after ∙ c.to-be-bytes.ensures);
+      ∙ ap (λ (xs : List ℕ). take c.args.at c.args.out ++ xs) (c.copy_from_slice.ensures.after ∙ c.to_be_bytes.ensures);
   rest =
-      drop-put_mid c.args.at (c.args.at + 4 - c.args.at) c.args.out c.copy-from-slice.new.self (c.args.at + 4)
+      drop-put_mid c.args.at (c.args.at + 4 - c.args.at) c.args.out c.copy_from_slice.new.self (c.args.at + 4)
       (omega arith) (omega arith) (omega arith);
 }

@@ -9,10 +9,10 @@ unfolding sha256
 returns c =
     let m : List ℕ = c.args.bytes.now in
     let part =
-    padded_part (cut m) (length m) (length_cut m) c.padded-buf.result c.padded-len-end.result
-    c.padded-len-end.ensures.value c.padded-buf.ensures
+    padded_part (cut m) (length m) (length_cut m) c.padded-buf.result c.padded_len-end.result
+    c.padded_len-end.ensures.value c.padded-buf.ensures
     in
-    c.to-bytes.ensures
+    c.to_bytes.ensures
     ∙ ap hash_bytes
     (hashed_whole initial_hash m (padding (length m)) c.args.s c.absorb.result c.requires
     (c.absorb.ensures ∙ ap (λ (xs : List ℕ). hashed c.args.s xs (length xs / 64)) part))

@@ -4,6 +4,6 @@ use Rattle.sha256.proofs.padding.padded.Goals as goal
 
 pub returns : goal.returns
 returns c =
-    padded_is c.args.tail.now c.args.total c.requires c.marked-buf.result c.copy-from-slice.new.self
-    c.padded-len-end.result c.marked-buf.ensures c.padded-len-end.ensures.value
-    (c.copy-from-slice.ensures.after ∙ c.length-bytes.ensures)
+    padded_is c.args.tail.now c.args.total c.requires c.marked-buf.result c.copy_from_slice.new.self
+    c.padded_len-end.result c.marked-buf.ensures c.padded_len-end.ensures.value
+    (c.copy_from_slice.ensures.after ∙ c.length_bytes.ensures)

@@ -9,7 +9,7 @@ loop-i-init c = refl
 pub loop-i-preserved : goal.loop-i-preserved
 loop-i-preserved c =
     let next : 8 * c.loop-i.i + 8 ≡ 8 * (c.loop-i.i + 1) = omega arith in
-    c.eight-rounds-s.ensures c.args.start c.loop-i.invariant ∙ ap (after_rounds c.args.start c.args.w.now) next
+    c.eight_rounds-s.ensures c.args.start c.loop-i.invariant ∙ ap (after_rounds c.args.start c.args.w.now) next
 
 pub returns : goal.returns
 returns c =

@@ -11,8 +11,8 @@ message-init c = (refl, refl)
 pub message-preserved : goal.message-preserved
 message-preserved c = (
   simp length-set c.message.invariant.0,
-  first_more c.args.block.now c.message.w c.message.t c.message-word.result (omega arith)
-      c.message.invariant.1 (omega arith) c.message-word.ensures,
+  first_more c.args.block.now c.message.w c.message.t c.message_word.result (omega arith)
+      c.message.invariant.1 (omega arith) c.message_word.ensures,
 )
 
 pub later-init : goal.later-init
@@ -21,7 +21,7 @@ later-init c = let done : c.message.t ≡ 16 = omega arith in (c.message.invaria
 pub later-preserved : goal.later-preserved
 later-preserved c =
     let next : 16 + 8 * c.later.i + 8 ≡ 16 + 8 * (c.later.i + 1) = omega arith in
-    (omega arith, rw next at (c.put-eight.ensures c.args.block.now c.later.invariant.1))
+    (omega arith, rw next at (c.put_eight.ensures c.args.block.now c.later.invariant.1))
 
 pub returns : goal.returns
 returns c =

@@ -8,6 +8,6 @@ returns c =
     let x = c.args.before.now in
     let y = decimal c.args.number in
     let z = c.args.after.now in
-    let a = pushed x refl c.in-ok-extend-from-slice.was c.extend-from-slice.ensures.items in
-    let b = pushed y a c.in-ok-push-number.was c.push-number.ensures in
-    three (vec_items c.args.out.now) x y z (pushed z b c.in-ok-extend-from-slice-2.was c.extend-from-slice-2.ensures.items)
+    let a = pushed x refl c.in_ok-extend_from_slice.was c.extend_from_slice.ensures.items in
+    let b = pushed y a c.in_ok-push_number.was c.push_number.ensures in
+    three (vec_items c.args.out.now) x y z (pushed z b c.in_ok-extend_from_slice-2.was c.extend_from_slice-2.ensures.items)

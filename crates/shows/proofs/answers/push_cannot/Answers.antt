@@ -6,7 +6,7 @@ use Rattle.shows.proofs.answers.push_cannot.Goals as goal
 pub returns : goal.returns
 returns c =
     let t = c.text.result.now in
-    let a = pushed (codes "? ") refl c.in-ok-extend-from-slice.was c.extend-from-slice.ensures.items in
-    let b = pushed t a c.in-ok-extend-from-slice-2.was c.extend-from-slice-2.ensures.items in
-    three (vec_items c.args.out.now) (codes "? ") t (codes "\n") (pushed (codes "\n") b c.in-ok-extend-from-slice-3.was c.extend-from-slice-3.ensures.items)
+    let a = pushed (codes "? ") refl c.in_ok-extend_from_slice.was c.extend_from_slice.ensures.items in
+    let b = pushed t a c.in_ok-extend_from_slice-2.was c.extend_from_slice-2.ensures.items in
+    three (vec_items c.args.out.now) (codes "? ") t (codes "\n") (pushed (codes "\n") b c.in_ok-extend_from_slice-3.was c.extend_from_slice-3.ensures.items)
     ∙ ap (λ l. vec_items c.args.out.now ++ (codes "? " ++ (l ++ codes "\n"))) c.text.ensures

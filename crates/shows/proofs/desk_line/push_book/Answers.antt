@@ -9,5 +9,5 @@ returns c =
     let was = vec_items c.args.out.now in
     let levels = levels_text 512 (vec_items c.args.stage.now.levels) in
     behind was (codes ", levels" ++ levels) (codes "\n")
-    (behind was (codes ", levels") levels (pushed (codes ", levels") refl c.in-ok-extend-from-slice.was c.extend-from-slice.ensures.items) c.in-ok-push-levels.ensures)
-    (pushed (codes "\n") refl c.in-ok-extend-from-slice-2.was c.extend-from-slice-2.ensures.items)
+    (behind was (codes ", levels") levels (pushed (codes ", levels") refl c.in_ok-extend_from_slice.was c.extend_from_slice.ensures.items) c.in_ok-push_levels.ensures)
+    (pushed (codes "\n") refl c.in_ok-extend_from_slice-2.was c.extend_from_slice-2.ensures.items)

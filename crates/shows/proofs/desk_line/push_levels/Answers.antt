@@ -12,5 +12,5 @@ unfolding levels_text
 loop-channel-preserved c =
     let ls = vec_items c.args.stage.now.levels in
     let k = c.loop-channel.channel in
-    behind (vec_items c.args.out.now) (levels_text k ls) (level_text k (get_or ls k 0)) c.loop-channel.invariant (c.in-ok-push-level.ensures ∙ ap (λ l. vec_items c.loop-channel.out ++ level_text k l) c.level-of.ensures)
+    behind (vec_items c.args.out.now) (levels_text k ls) (level_text k (get_or ls k 0)) c.loop-channel.invariant (c.in_ok-push_level.ensures ∙ ap (λ l. vec_items c.loop-channel.out ++ level_text k l) c.level_of.ensures)
     ∙ ap (λ n. vec_items c.args.out.now ++ levels_text n ls) (sym (add-one k))

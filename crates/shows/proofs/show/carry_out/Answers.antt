@@ -5,7 +5,7 @@ use Rattle.shows.proofs.Desks.{carried}
 use Rattle.shows.proofs.show.carry_out.Goals as goal
 
 pub returns-in-Some : goal.returns-in-Some
-returns-in-Some c = carried (Some c.of-desk.new.self) c.of-desk.result c.in-Some.is c.in-OfDesk.is (c.of-desk.new.self, refl, c.of-desk.ensures)
+returns-in-Some c = carried (Some c.of_desk.new.self) c.of_desk.result c.in-Some.is c.in-OfDesk.is (c.of_desk.new.self, refl, c.of_desk.ensures)
 
 pub returns-in-Some-show : goal.returns-in-Some-show
 returns-in-Some-show c =

@@ -6,9 +6,9 @@ use Rattle.shows.proofs.show.desks.Goals as goal
 pub returns : goal.returns
 returns c =
     let one : length c.args.desks.now ≡ 1 = search rules in
-    let new = c.in-ok-stage.ensures in
+    let new = c.in_ok-stage.ensures in
     let judged = member_is (get_or c.args.desks.now 0 0) c.in-Ok.member (sym c.in-Ok.ensures) in (
-      is_none _ (sym c.if-is-some.ensures),
+      is_none _ (sym c.if-is_some.ensures),
       (
         _,
         single c.args.desks.now one,

@@ -11,8 +11,8 @@ returns c =
     let was = vec_items c.args.out.now in
     let line = line_text c.args.line in
     let why = text_of (why_of c.args.reason) in
-    let a = c.in-ok-push-line.ensures in
-    let b = pushed (codes "? ") a c.in-ok-extend-from-slice.was c.extend-from-slice.ensures.items in
-    let d = pushed why b c.in-ok-write.was c.write.ensures in
-    let e = pushed (codes "\n") d c.in-ok-extend-from-slice-2.was c.extend-from-slice-2.ensures.items in
+    let a = c.in_ok-push_line.ensures in
+    let b = pushed (codes "? ") a c.in_ok-extend_from_slice.was c.extend_from_slice.ensures.items in
+    let d = pushed why b c.in_ok-write.was c.write.ensures in
+    let e = pushed (codes "\n") d c.in_ok-extend_from_slice-2.was c.extend_from_slice-2.ensures.items in
     three (was ++ line) (codes "? ") why (codes "\n") e ∙ append_assoc was line (codes "? " ++ (why ++ codes "\n"))

@@ -4,4 +4,4 @@ use Rattle.stage.proofs.Stage.new.Goals as goal
 
 pub returns : goal.returns
 unfolding levels_from first_levels
-returns c = (record { levels = c.in-ok-levels.ensures.items-if-clones-equal (λ y e. e); done = c.new-2.ensures }, refl, refl, refl, c.new.ensures.items)
+returns c = (record { levels = c.in_ok-levels.ensures.items_if_clones_equal (λ y e. e); done = c.new-2.ensures }, refl, refl, refl, c.new.ensures.items)

@@ -3,8 +3,8 @@ use Rattle.text.specs.Numeral.{raised, lowered}
 use Rattle.text.proofs.Decimal.{step_none, step_minus, step_plus, step_plain}
 use Rattle.text.proofs.numbers.step.Goals as goal
 
-pub returns-in-default : goal.returns-in-default
-returns-in-default c = step_none _ c.in-default.ensures.cases
+pub returns-in_default : goal.returns-in_default
+returns-in_default c = step_none _ c.in_default.ensures.cases
 
 pub returns-then-first-eq45 : goal.returns-then-first-eq45
 returns-then-first-eq45 c = c.down.ensures ∙ ap lowered c.number.ensures ∙ step_minus _ _ _ c.in-Some.ensures.cases.0 c.if-first-eq45.true

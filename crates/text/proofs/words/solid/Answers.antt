@@ -6,11 +6,11 @@ pub loop-i-init : goal.loop-i-init
 loop-i-init c = (omega arith, after_none _)
 
 pub loop-i-preserved : goal.loop-i-preserved
-loop-i-preserved c = (omega arith, after_more _ _ c.loop-i-test.true (sym c.is-blank.ensures ∙ c.if-not-is-blank.true) ∙ c.loop-i.invariant.1)
+loop-i-preserved c = (omega arith, after_more _ _ c.loop-i-test.true (sym c.is_blank.ensures ∙ c.if-not-is_blank.true) ∙ c.loop-i.invariant.1)
 
-pub returns-else-not-is-blank : goal.returns-else-not-is-blank
-returns-else-not-is-blank c =
-    let here = sym c.is-blank.ensures ∙ c.if-not-is-blank.false in
+pub returns-else-not-is_blank : goal.returns-else-not-is_blank
+returns-else-not-is_blank c =
+    let here = sym c.is_blank.ensures ∙ c.if-not-is_blank.false in
     record {
       within = c.loop-i.invariant.0;
       splits = sym c.loop-i.invariant.1 ∙ after_stops _ _ c.loop-i-test.true here;

@@ -16,22 +16,22 @@ returns-then-kind-eq0 c =
 pub returns-then-bytes-size : goal.returns-then-bytes-size
 returns-then-bytes-size c =
     let k = get_or c.args.bytes.now 13 0 in
-    let e = c.size-as-size.ensures in
+    let e = c.size_as-size.ensures in
     sym (decode_cut c.args.bytes.now k (omega arith) refl (or_from (eqb k 0) (ltb 3 k) (ne_eqb k 0 c.if-kind-eq0.false) (le-ltb 3 k c.if-kind-gt3.false)) (omega (arith, e)))
 
-pub get-command-requires : goal.get-command-requires
-get-command-requires c = let e = c.size-as-size.ensures in omega (arith, e)
+pub get_command-requires : goal.get_command-requires
+get_command-requires c = let e = c.size_as-size.ensures in omega (arith, e)
 
 pub returns-in-Ok : goal.returns-in-Ok
 returns-in-Ok c =
     let k = get_or c.args.bytes.now 13 0 in
-    let e = c.size-as-size.ensures in
+    let e = c.size_as-size.ensures in
     let w = decode_whole c.args.bytes.now k (omega arith) refl (or_from (eqb k 0) (ltb 3 k) (ne_eqb k 0 c.if-kind-eq0.false) (le-ltb 3 k c.if-kind-gt3.false)) (omega (arith, e)) in
     ap (λ n. Ok (c.in-Ok.command, n)) e ∙ ap (read_as (size_as k c.args.bytes.now)) c.in-Ok.ensures ∙ sym w
 
 pub returns-in-Err : goal.returns-in-Err
 returns-in-Err c =
     let k = get_or c.args.bytes.now 13 0 in
-    let e = c.size-as-size.ensures in
+    let e = c.size_as-size.ensures in
     let w = decode_whole c.args.bytes.now k (omega arith) refl (or_from (eqb k 0) (ltb 3 k) (ne_eqb k 0 c.if-kind-eq0.false) (le-ltb 3 k c.if-kind-gt3.false)) (omega (arith, e)) in
     ap (read_as (size_as k c.args.bytes.now)) c.in-Err.ensures ∙ sym w

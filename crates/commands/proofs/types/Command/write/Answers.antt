@@ -9,18 +9,18 @@ returns-then-out-size c =
     let no : fits (encode c.args.self.now) c.args.out.now ≡ false = lt-leb _ _ (omega arith) in
     record { after = sym (cond-false _ _ _ no); value = sym (cond-false _ _ _ no); room = omega arith }
 
-pub put-head-requires : goal.put-head-requires
-put-head-requires c = let n = length-encode c.args.self.now in omega arith
+pub put_head-requires : goal.put_head-requires
+put_head-requires c = let n = length-encode c.args.self.now in omega arith
 
-pub put-action-requires : goal.put-action-requires
-put-action-requires c = let n = length-encode c.args.self.now in omega arith
+pub put_action-requires : goal.put_action-requires
+put_action-requires c = let n = length-encode c.args.self.now in omega arith
 
 pub returns : goal.returns
 unfolding encode
 returns c =
     let fit : fits (encode c.args.self.now) c.args.out.now ≡ true = le-leb _ _ (omega arith) in
     record {
-      after = chained c.args.out.now c.put-head.new.out _ _ _ 0 13 (omega arith) refl c.put-head.ensures c.put-action.ensures ∙ sym (cond-true _ _ _ fit);
+      after = chained c.args.out.now c.put_head.new.out _ _ _ 0 13 (omega arith) refl c.put_head.ensures c.put_action.ensures ∙ sym (cond-true _ _ _ fit);
       value = ap Some c.size-size.ensures.value ∙ sym (cond-true _ _ _ fit);
       room = omega arith;
     }

@@ -13,6 +13,6 @@ returns c =
     let record' = record_text s.stage.done in
     behind was (desk ++ place ++ record') (book_text (vec_items s.stage.levels))
     (behind was (desk ++ place) record'
-    (behind was desk place c.in-ok-push-around.ensures (c.in-ok-push-place.ensures ∙ ap (λ i. vec_items c.push-around.new.out ++ place_text i) c.is-inside.ensures))
-    (c.in-ok-push-record.ensures ∙ ap (λ r. vec_items c.push-place.new.out ++ record_text r) c.done.ensures))
-    c.in-ok-push-book.ensures
+    (behind was desk place c.in_ok-push_around.ensures (c.in_ok-push_place.ensures ∙ ap (λ i. vec_items c.push_around.new.out ++ place_text i) c.is_inside.ensures))
+    (c.in_ok-push_record.ensures ∙ ap (λ r. vec_items c.push_place.new.out ++ record_text r) c.done.ensures))
+    c.in_ok-push_book.ensures

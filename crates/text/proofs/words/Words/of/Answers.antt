@@ -4,4 +4,4 @@ use Rattle.text.proofs.words.Words.of.Goals as goal
 
 pub returns : goal.returns
 unfolding plain
-returns c = ap words (ap (λ n. take n c.without-return-bare.result.now) (omega arith) ∙ c.before-comment.ensures.front ∙ ap before_comment c.without-return-bare.ensures)
+returns c = ap words (ap (λ n. take n c.without_return-bare.result.now) (omega arith) ∙ c.before_comment.ensures.front ∙ ap before_comment c.without_return-bare.ensures)
