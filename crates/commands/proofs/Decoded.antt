@@ -1,6 +1,6 @@
 -- Only valid commands are read, and the bytes that were read are just those of the command.
 use Rattle.std.proofs.Common.{◌≡◌, ℕ, zero, suc, ◌+◌, ◌-◌, ◌*◌, ◌^◌, ◌<◌, ◌≤◌, true, false, cond, ◌||◌, eqb, ltb, ◌⊎◌, List, [], ◌∷◌, ◌++◌, length, get_or, take, replicate, Ok, Err, Result, sym, refl, ap, ◌∙◌, subst, ⊎_elim, arith}
-use Rattle.std.specs.List.{flat_map, AllByRecursion as All}
+use Rattle.std.specs.List.{flat_map, AllByRecursion}
 use Rattle.std.proofs.lemmas.List.{take_at}
 use Rattle.std.proofs.lemmas.Bool.{true≢false, cases_lt, cases_Bool, lt-ltb, or_parts, cond_both}
 use Rattle.commands.specs.declared.types.Channel.{Channel}
@@ -86,7 +86,7 @@ module _ (b : List ℕ) (bytes : Bytes b) where
         bytes = ap (λ x. x ++ bytes4 (raised (lowered (at4 b 16)))) (head_read 2 c.index (omega arith) k same) ∙ ap (λ x. piece b 13 3 ++ x) step ∙ piece_join b 13 3 4 16 7 refl refl;
       }
 
-  words_read : (i n : ℕ) → All (λ l. l < 2 ^ 16) (list_at b i n)
+  words_read : (i n : ℕ) → AllByRecursion (λ l. l < 2 ^ 16) (list_at b i n)
   words_read i zero = tt
   words_read i (suc n) = (two_below i, words_read (i + 2) n)
 

@@ -1,6 +1,6 @@
 -- What is written is read back.
 use Rattle.std.proofs.Common.{◌≡◌, ℕ, ◌+◌, ◌-◌, ◌*◌, ◌/◌, ◌%◌, ◌^◌, ◌<◌, ◌≤◌, false, ◌||◌, eqb, ltb, List, [], ◌∷◌, ◌++◌, length, get_or, take, Ok, sym, refl, ap, ◌∙◌, append_assoc, arith}
-use Rattle.std.specs.List.{flat_map, AllByRecursion as All}
+use Rattle.std.specs.List.{flat_map, AllByRecursion}
 use Rattle.std.proofs.lemmas.List.{length-append, length_push, take-append-drop, length-take-le, get_or_at}
 use Rattle.std.proofs.ByRecursion.{All-take}
 use Rattle.commands.specs.declared.types.MemberId.{MemberId}
@@ -45,7 +45,7 @@ pair_back front rest x y i e =
     cc
 
 -- a list of levels read from where its bytes stand
-levels_back : (vs front rest : List ℕ) (i : ℕ) → All (λ l. l < 2 ^ 16) vs → i ≡ length front → list_at (front ++ (flat_map bytes2 vs ++ rest)) i (length vs) ≡ vs
+levels_back : (vs front rest : List ℕ) (i : ℕ) → AllByRecursion (λ l. l < 2 ^ 16) vs → i ≡ length front → list_at (front ++ (flat_map bytes2 vs ++ rest)) i (length vs) ≡ vs
 levels_back [] front rest i a e = refl
 levels_back (v ∷ vs) front rest i a e =
     let first = pair_back front (flat_map bytes2 vs ++ rest) (v / 256 % 256) (v % 256) i e ∙ number2 v a.0 in

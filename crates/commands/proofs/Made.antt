@@ -1,6 +1,6 @@
 -- What the makers make is valid.
 use Rattle.std.proofs.Common.{◌≡◌, ℕ, zero, suc, ◌-◌, ◌^◌, ◌<◌, ◌≤◌, Bool, true, false, cond, leb, List, [], ◌∷◌, length, replicate, Some, None, Ok, Option, sym, refl, ap, ◌∙◌, subst, arith}
-use Rattle.std.specs.List.{AllByRecursion as All}
+use Rattle.std.specs.List.{AllByRecursion}
 use Rattle.std.proofs.lemmas.List.{length-append, length-replicate, drop_at}
 use Rattle.std.proofs.ByRecursion.{All-append}
 use Rattle.std.proofs.lemmas.Bool.{leb-true}
@@ -11,12 +11,12 @@ use Rattle.commands.specs.Values.{Valid, ValidAction, ValidScene, channel_or, le
 use Rattle.commands.specs.Laws.{Makers}
 use Rattle.commands.proofs.Judged.{member_is, channel_is, level_is, count_is, command_is, then_is}
 
-pub zeros_below : (k : ℕ) → All (λ l. l < 2 ^ 16) (replicate k 0)
+pub zeros_below : (k : ℕ) → AllByRecursion (λ l. l < 2 ^ 16) (replicate k 0)
 zeros_below zero = tt
 zeros_below (suc k) = (omega arith, zeros_below k)
 
 -- a scene of up to 32 levels of 16 bits, with zeros behind them
-pub padded_valid : (c : Channel) (vs : List ℕ) (n : ℕ) → length vs ≡ n → c.index ≤ 511 → 1 ≤ n → n ≤ 32 → All (λ l. l < 2 ^ 16) vs → ValidScene (record { first = c; count = n; levels = padded vs })
+pub padded_valid : (c : Channel) (vs : List ℕ) (n : ℕ) → length vs ≡ n → c.index ≤ 511 → 1 ≤ n → n ≤ 32 → AllByRecursion (λ l. l < 2 ^ 16) vs → ValidScene (record { first = c; count = n; levels = padded vs })
 padded_valid c vs n long h l m w =
     let zeros : List ℕ = replicate (32 - length vs) 0 in
     let z : length {A = ℕ} (replicate (32 - length vs) 0) ≡ 32 - length vs = length-replicate (32 - length vs) 0 in
@@ -33,7 +33,7 @@ low_first : (b : Bool) (l : ℕ) (o : Option ℕ) → cond b o (Some l) ≡ None
 low_first true l o h = (refl, h)
 low_first false l o h = let z : ◌≡◌ {A = ℕ} 0 1 = cc in absurd (omega arith)
 
-none_high : (ls : List ℕ) → first_high ls ≡ None → All (λ l. l < 2 ^ 16) ls
+none_high : (ls : List ℕ) → first_high ls ≡ None → AllByRecursion (λ l. l < 2 ^ 16) ls
 none_high [] h = tt
 none_high (l ∷ ls) h = let p = low_first (leb l 65535) l (first_high ls) h in (omega (arith, leb-true l 65535 p.0), none_high ls p.1)
 

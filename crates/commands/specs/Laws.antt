@@ -1,7 +1,7 @@
 -- The laws of a command's bytes, for the front of a longer list too, and of the makers.
 use Rattle.std.specs.Prelude.{◌≡◌, ℕ, ◌^◌, ◌<◌, ◌≤◌, List, ◌++◌, length, take, ℤ, Ok, Err, FitsSigned}
 use Rattle.std.specs.Int.{w32}
-use Rattle.std.specs.List.{AllByRecursion as All}
+use Rattle.std.specs.List.{AllByRecursion}
 use Rattle.commands.specs.declared.types.MemberId.{MemberId}
 use Rattle.commands.specs.declared.types.Action.{Action}
 use Rattle.commands.specs.declared.types.Command.{Command}
@@ -11,7 +11,7 @@ use Rattle.commands.specs.Bytes.{encode, decode}
 
 -- a list of bytes
 abbrev pub Bytes : List ℕ → Type 0
-Bytes b = All (λ x. x < 2 ^ 8) b
+Bytes b = AllByRecursion (λ x. x < 2 ^ 8) b
 
 -- what was written is read back, and no byte behind it is touched
 abbrev pub ReadsBack : Type 0

@@ -1,7 +1,7 @@
 -- Which values can be, and what is answered where one can't.
 use Rattle.std.specs.Prelude.{◌≡◌, ℕ, ◌-◌, ◌^◌, ◌<◌, ◌≤◌, cond, ◌&&◌, List, [], ◌∷◌, ◌++◌, length, drop, replicate, ℤ, Some, None, Ok, Err, Option, Result, FitsSigned, ◌==◌, nat_le}
 use Rattle.std.specs.Int.{w32}
-use Rattle.std.specs.List.{AllByRecursion as All}
+use Rattle.std.specs.List.{AllByRecursion}
 use Rattle.commands.specs.declared.types.MemberId.{MemberId}
 use Rattle.commands.specs.declared.types.Channel.{Channel}
 use Rattle.commands.specs.declared.types.Scene.{Scene}
@@ -77,7 +77,7 @@ pub record ValidScene (s : Scene) : Type 0 where
   pub some : 1 ≤ s.count
   pub few : s.count ≤ 32
   pub places : length s.levels ≡ 32
-  pub words : All (λ l. l < 2 ^ 16) s.levels
+  pub words : AllByRecursion (λ l. l < 2 ^ 16) s.levels
   pub rest : drop s.count s.levels ≡ replicate (32 - s.count) 0
 
 -- an action that can be

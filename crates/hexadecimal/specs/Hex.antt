@@ -1,6 +1,6 @@
 -- Bytes in hexadecimal digits. Assumes nothing.
 use Rattle.std.specs.Prelude.{◌≡◌, ℕ, ◌+◌, ◌-◌, ◌*◌, ◌/◌, ◌%◌, ◌<◌, cond, ◌&&◌, List, [], ◌∷◌, Some, None, Option, nat_le, nat_lt}
-use Rattle.std.specs.List.{AllByRecursion as All}
+use Rattle.std.specs.List.{AllByRecursion}
 
 -- the digit of a number below 16, in lower case
 abbrev pub hex_digit : ℕ → ℕ
@@ -37,4 +37,4 @@ bytes_of (a ∷ b ∷ cs) = before (byte_of a b) (bytes_of cs)
 
 -- what is written of bytes is read back as these bytes
 abbrev pub ReadsBack : Type 0
-ReadsBack = (bs : List ℕ) → All (λ b. b < 256) bs → bytes_of (hex_of bs) ≡ Some bs
+ReadsBack = (bs : List ℕ) → AllByRecursion (λ b. b < 256) bs → bytes_of (hex_of bs) ≡ Some bs
