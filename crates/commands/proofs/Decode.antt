@@ -1,5 +1,5 @@
 -- What `decode` comes to, way by way.
-use Rattle.std.proofs.Common.{◌≡◌, ℕ, ◌-◌, ◌<◌, ◌≤◌, true, false, ◌||◌, eqb, ltb, List, length, get_or, Err, ap, ◌∙◌}
+use Rattle.std.proofs.Common.{◌≡◌, ℕ, ◌<◌, ◌≤◌, true, false, ◌||◌, eqb, ltb, List, length, get_or, Err, ap, ◌∙◌}
 use Rattle.std.proofs.lemmas.Bool.{lt-ltb, le-ltb, cond-true, cond-false}
 use Rattle.commands.specs.declared.types.Refusal.TheVariants.{Kind}
 use Rattle.commands.specs.declared.reader.ReadError.TheVariants.{CutShort, Invalid}

@@ -1,5 +1,5 @@
 -- Levels read one after another.
-use Rattle.std.proofs.Common.{◌≡◌, ℕ, zero, suc, ◌+◌, ◌-◌, ◌*◌, List, [], ◌∷◌, ◌++◌, length, refl, ap, arith}
+use Rattle.std.proofs.Common.{◌≡◌, ℕ, zero, suc, ◌+◌, ◌*◌, List, [], ◌∷◌, ◌++◌, length, refl, ap, arith}
 use Rattle.commands.specs.Bytes.{at2, list_at}
 
 pub length-list_at : (b : List ℕ) (i n : ℕ) → length (list_at b i n) ≡ n

@@ -1,4 +1,4 @@
-use Rattle.std.proofs.Common.{◌≡◌, ◌-◌, refl, add-one, arith}
+use Rattle.std.proofs.Common.{◌≡◌, refl, add-one, arith}
 use Rattle.commands.specs.Bytes.{list_at}
 use Rattle.commands.proofs.Places.{place_more}
 use Rattle.commands.proofs.Numbers.{length-list_at, list_at_more}

@@ -1,4 +1,4 @@
-use Rattle.std.proofs.Common.{◌+◌, ◌++◌, get_or, vec_items, sym, ap, ◌∙◌, append-nil, add-one}
+use Rattle.std.proofs.Common.{◌++◌, get_or, vec_items, sym, ap, ◌∙◌, append-nil, add-one}
 use Rattle.shows.specs.Texts.{levels_text, level_text}
 use Rattle.shows.proofs.Chains.{behind}
 use Rattle.shows.proofs.desk_line.push_levels.Goals as goal
