@@ -1,4 +1,4 @@
-use Rattle.std.proofs.Common.{◌≡◌, length, vec_items, sym, refl, ap, ◌∙◌, arith}
+use Rattle.std.proofs.Common.{◌≡◌, length, vec_items, sym, refl, ap, ◌∙◌, arith, rules}
 use Rattle.std.proofs.lemmas.List.{with_items_is}
 use Rattle.std.proofs.lemmas.Bool.{cond-true, cond-false}
 use Rattle.history.specs.History.{first_levels, first_record, levels_from, record_from}
@@ -21,7 +21,7 @@ returns c =
       member = refl;
       inside = refl;
       issued = refl;
-      waiting = c.clear.ensures.items;
+      waiting = search rules;
       stands = λ es s. record {
         levels = with_items_is c.args.self.now.levels levels long ∙ c.deliver_all-self.ensures.after ∙ ap (levels_from _) waiting
             ∙ ap (λ l. levels_from l all) (c.deref_mut.ensures.value ∙ s.levels) ∙ sym (in_two_parts.levels first_levels es all);
