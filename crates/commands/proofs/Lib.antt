@@ -5,6 +5,7 @@ pub mod Digits
 pub mod Encoded
 pub mod Fills
 pub mod Judged
+pub mod Codes
 pub mod Made
 pub mod Numbers
 pub mod Pieces

@@ -2,43 +2,31 @@
 ghost use Rattle.commands.specs.Laws.{ReadsBack, PrefixFree, CutIsCut, OnlyValid, AreBytes, Makers};
 
 // What was written is read back, whatever stands behind it.
-pub fn reads_back() -> u8
+pub fn reads_back()
     ensures { ReadsBack }
-{
-    0
-}
+{}
 
 // No command's bytes are the beginning of another's.
-pub fn prefix_free() -> u8
+pub fn prefix_free()
     ensures { PrefixFree }
-{
-    0
-}
+{}
 
 // A command cut short is never read.
-pub fn cut_is_cut() -> u8
+pub fn cut_is_cut()
     ensures { CutIsCut }
-{
-    0
-}
+{}
 
 // Only valid commands are read, and the bytes that were read are just those of the command.
-pub fn only_valid() -> u8
+pub fn only_valid()
     ensures { OnlyValid }
-{
-    0
-}
+{}
 
 // A command's bytes are bytes, 18 to 81 of them.
-pub fn are_bytes() -> u8
+pub fn are_bytes()
     ensures { AreBytes }
-{
-    0
-}
+{}
 
 // What the makers make is valid.
-pub fn makers_stand() -> u8
+pub fn makers_stand()
     ensures { Makers }
-{
-    0
-}
+{}

@@ -1,129 +1,143 @@
 // A command read from the front of some bytes.
-ghost use Rattle.std.specs.Prelude.{◌≡◌, ◌+◌, ◌*◌, ◌≤◌, length, slice_index};
-ghost use Rattle.commands.specs.Values.{padded};
-ghost use Rattle.commands.specs.Bytes.{at2, at4, list_at, lowered, size_as, action_as, command_at, decode};
+ghost use Rattle.std.specs.Prelude.{◌≡◌, ◌+◌, ◌*◌, ◌≤◌, length, slice_index, take, drop};
+ghost use Rattle.commands.specs.declared.reader.ReadError.TheVariants.{Invalid};
+ghost use Rattle.commands.specs.Kind.{code_of};
+ghost use Rattle.commands.specs.Bytes.{list_at, lowered, size_as, action_as, command_at, decode};
 
-use crate::types::{Action, Channel, Command, MemberId, Refusal, Scene, count_of};
+use crate::types::{Action, Channel, Command, Kind, MemberId, Refusal, Scene, count_of};
+use thiserror::Error;
 
 // Why no command was read.
-#[derive(Clone, Copy)]
+#[derive(Clone, Copy, Debug, Error)]
 pub enum ReadError {
     // there are fewer bytes than the command takes
+    #[error("the command is cut short")]
     CutShort,
     // all its bytes are there, and a value among them can't be
+    #[error(transparent)]
     Invalid(Refusal),
 }
 
-fn get2(bytes: &[u8], at: usize) -> u16
-    requires { at + 2 ≤ length bytes.now }
-    ensures { result ≡ at2 bytes.now at }
-{
-    u16::from_be_bytes([bytes[at], bytes[at + 1]])
-}
+impl From<Refusal> for ReadError {
+    ghost from_gives = { λ refusal e. e ≡ Invalid refusal };
 
-fn get4(bytes: &[u8], at: usize) -> u32
-    requires { at + 4 ≤ length bytes.now }
-    ensures { result ≡ at4 bytes.now at }
-{
-    u32::from_be_bytes([bytes[at], bytes[at + 1], bytes[at + 2], bytes[at + 3]])
+    fn from(refusal: Refusal) -> ReadError {
+        ReadError::Invalid(refusal)
+    }
 }
 
 // A step from what stands in the bytes, 2^31 more.
 fn lower(n: u32) -> i32
     ensures { result ≡ lowered n }
 {
-    (n as i64 - 2147483648) as i32
+    i32::MIN.wrapping_add_unsigned(n)
 }
 
-fn size_as(kind: u8, bytes: &[u8]) -> usize
-    ensures { result ≡ size_as kind bytes.now }
-{
-    match kind {
-        1 => 18,
-        2 => 20,
-        _ => {
-            if bytes.len() > 16 {
-                17 + 2 * bytes[16] as usize
-            } else {
-                17
+impl Kind {
+    // How many bytes a command of this kind takes; a scene says how many levels it has.
+    fn size(self, bytes: &[u8]) -> usize
+        ensures { result ≡ size_as (code_of self) bytes.now }
+    {
+        match self {
+            Kind::Set => 18,
+            Kind::Move => 20,
+            Kind::Scene => 17 + 2 * bytes.get(16).map_or(0, |count| usize::from(*count)),
+        }
+    }
+}
+
+// Bytes, and how many of them are read.
+#[derive(Drop)]
+struct Reader<'a> {
+    bytes: &'a [u8],
+    at: usize,
+}
+
+impl Reader<'_> {
+    fn take<const N: usize>(&mut self) -> [u8; N]
+        requires { self.old.at + N ≤ length self.old.bytes.now }
+        ensures value { result ≡ take N (drop self.old.at self.old.bytes.now) }
+        ensures place { self.new.at ≡ self.old.at + N }
+        ensures bytes { self.new.bytes.now ≡ self.old.bytes.now }
+    {
+        let rest = &self.bytes[self.at..];
+        self.at += N;
+        *rest.first_chunk().unwrap()
+    }
+
+    fn take_levels(&mut self, levels: &mut [u16])
+        requires { self.old.at + 2 * length levels.old ≤ length self.old.bytes.now }
+        ensures { levels.new ≡ list_at self.old.bytes.now self.old.at (length levels.old) }
+    {
+        for level in levels.iter_mut() {
+            *level = u16::from_be_bytes(self.take());
+        }
+    }
+
+    // What the bytes behind the kind say.
+    fn take_action(&mut self, kind: Kind) -> Result<Action, Refusal>
+        requires place { self.old.at ≡ 14 }
+        requires whole { size_as (code_of kind) self.old.bytes.now ≤ length self.old.bytes.now }
+        ensures { result ≡ action_as (code_of kind) self.old.bytes.now }
+    {
+        let channel = u16::from_be_bytes(self.take());
+        let channel = Channel::try_from(u64::from(channel))?;
+        match kind {
+            Kind::Set => Ok(Action::Set {
+                channel,
+                level: u16::from_be_bytes(self.take()),
+            }),
+            Kind::Move => Ok(Action::Move {
+                channel,
+                step: lower(u32::from_be_bytes(self.take())),
+            }),
+            Kind::Scene => {
+                let [count] = self.take::<1>();
+                let count = count_of(u64::from(count))?;
+                let mut levels = [0; 32];
+                self.take_levels(&mut levels[..usize::from(count)]);
+                Ok(Action::Scene(Scene {
+                    first: channel,
+                    count,
+                    levels,
+                }))
             }
         }
     }
 }
 
-// A scene's levels, from place 17 on.
-fn get_levels(bytes: &[u8], count: u8) -> [u16; 32]
-    requires { (count ≤ 32) × (17 + 2 * count ≤ length bytes.now) }
-    ensures { result ≡ padded (list_at bytes.now 17 count) }
-{
-    let mut levels = [0; 32];
-    for k in 0..count as usize {
-        levels[k] = get2(bytes, 17 + 2 * k);
-    }
-    levels
-}
-
-// What the bytes from the kind on say.
-fn get_action(kind: u8, bytes: &[u8]) -> Result<Action, Refusal>
-    requires { size_as kind bytes.now ≤ length bytes.now }
-    ensures { result ≡ action_as kind bytes.now }
-{
-    let channel = Channel::new(get2(bytes, 14) as u64)?;
-    match kind {
-        1 => Ok(Action::Set {
-            channel,
-            level: get2(bytes, 16),
-        }),
-        2 => Ok(Action::Move {
-            channel,
-            step: lower(get4(bytes, 16)),
-        }),
-        _ => {
-            let count = count_of(bytes[16] as u64)?;
-            Ok(Action::Scene(Scene {
-                first: channel,
-                count,
-                levels: get_levels(bytes, count),
-            }))
-        }
-    }
-}
-
 // The command, all of its bytes being there.
-fn get_command(bytes: &[u8]) -> Result<Command, Refusal>
-    requires { size_as (slice_index bytes.now 13) bytes.now ≤ length bytes.now }
+fn get_command(kind: Kind, bytes: &[u8]) -> Result<Command, Refusal>
+    requires kind { slice_index bytes.now 13 ≡ code_of kind }
+    requires whole { size_as (code_of kind) bytes.now ≤ length bytes.now }
     ensures { result ≡ command_at bytes.now }
 {
-    let member = MemberId::new(bytes[4] as u64)?;
-    let action = get_action(bytes[13], bytes)?;
-    Command::new(
-        get4(bytes, 0),
-        member,
-        get4(bytes, 5),
-        get4(bytes, 9),
-        action,
-    )
+    let mut reader = Reader { bytes, at: 0 };
+    let view = u32::from_be_bytes(reader.take());
+    let [member] = reader.take::<1>();
+    let number = u32::from_be_bytes(reader.take());
+    let stamp = u32::from_be_bytes(reader.take());
+    let [_kind] = reader.take::<1>();
+    let member = MemberId::try_from(u64::from(member))?;
+    let action = reader.take_action(kind)?;
+    Command::new(view, member, number, stamp, action)
 }
 
 impl Command {
     // The command at the front of some bytes, and how many of them it takes.
+    #[tactic(auto, using(crate::proofs::Codes::kind_is, crate::proofs::Codes::kind_known, crate::proofs::Codes::kind_none), unfolding(crate::specs::Bytes::decode))]
     pub fn read(bytes: &[u8]) -> Result<(Command, usize), ReadError>
         ensures { result ≡ decode bytes.now }
     {
-        if bytes.len() < 14 {
+        let Some(kind) = bytes.get(13) else {
             return Err(ReadError::CutShort);
-        }
-        let kind = bytes[13];
-        if kind == 0 || kind > 3 {
-            return Err(ReadError::Invalid(Refusal::Kind(kind)));
-        }
-        let size = size_as(kind, bytes);
+        };
+        let kind = Kind::try_from(*kind)?;
+        let size = kind.size(bytes);
         if bytes.len() < size {
             return Err(ReadError::CutShort);
         }
-        match get_command(bytes) {
-            Ok(command) => Ok((command, size)),
-            Err(refusal) => Err(ReadError::Invalid(refusal)),
-        }
+        let command = get_command(kind, bytes)?;
+        Ok((command, size))
     }
 }

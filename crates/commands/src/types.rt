@@ -1,6 +1,9 @@
 // What a command is. Fields are private to the crate: a value is made only by functions that refuse what can't be.
-ghost use Rattle.std.specs.Prelude.{◌≡◌, ◌≤◌, length};
+ghost use Rattle.std.specs.Prelude.{◌≡◌, ◌≤◌, length, take};
+ghost use Rattle.commands.specs.Kind.{kind_or};
 ghost use Rattle.commands.specs.Values.{row, member_or, channel_or, level_or, count_or, first_high, unless_high, padded, set_or, move_or, scene_or, command_or};
+
+use thiserror::Error;
 
 // One replica, 0 to 63.
 #[derive(Clone, Copy)]
@@ -15,6 +18,7 @@ pub struct Channel {
 }
 
 // Levels for the channels from `first` on: as many as `count` says, 1 to 32. Those past the count are 0, so that one value has one form.
+// An array and a count, and no `ArrayVec`, since that is not `Copy`, as a command is.
 #[derive(Clone, Copy)]
 pub struct Scene {
     pub(crate) first: Channel,
@@ -33,6 +37,39 @@ pub enum Action {
     Scene(Scene),
 }
 
+impl Scene {
+    // The levels, one for each channel from the first on.
+    pub(crate) fn levels(&self) -> &[u16]
+        ensures few { length result.now ≤ 32 }
+        ensures value { result.now ≡ take self.now.count self.now.levels }
+    {
+        &self.levels[..usize::from(self.count).min(32)]
+    }
+}
+
+// The kind of an action, by its number in the bytes.
+#[derive(Clone, Copy)]
+pub(crate) enum Kind {
+    Set = 1,
+    Move = 2,
+    Scene = 3,
+}
+
+impl TryFrom<u8> for Kind {
+    type Error = Refusal;
+
+    ghost try_from_gives = { λ code r. r ≡ kind_or code };
+
+    fn try_from(code: u8) -> Result<Kind, Refusal> {
+        match code {
+            1 => Ok(Kind::Set),
+            2 => Ok(Kind::Move),
+            3 => Ok(Kind::Scene),
+            _ => Err(Refusal::Kind(code)),
+        }
+    }
+}
+
 // One numbered, stamped state change: in which view it was issued, by whom, its number of those (from 1), and its Lamport stamp.
 #[derive(Clone, Copy)]
 pub struct Command {
@@ -44,14 +81,21 @@ pub struct Command {
 }
 
 // A value that can't be, and which.
-#[derive(Clone, Copy)]
+#[derive(Clone, Copy, Debug, Error)]
 pub enum Refusal {
+    #[error("there is no member {0}")]
     Member(u64),
+    #[error("no command has number {0}")]
     Number(u32),
+    #[error("no command has stamp {0}")]
     Stamp(u32),
+    #[error("there is no kind {0} of commands")]
     Kind(u8),
+    #[error("there is no channel {0}")]
     Channel(u64),
+    #[error("there is no level {0}")]
     Level(u64),
+    #[error("no scene has {0} levels")]
     LevelCount(u64),
 }
 
@@ -72,58 +116,64 @@ impl Refusal {
     }
 }
 
-impl MemberId {
-    pub fn new(id: u64) -> Result<MemberId, Refusal>
-        ensures { result ≡ member_or id }
-    {
-        if id <= 63 {
-            Ok(MemberId { id: id as u8 })
-        } else {
-            Err(Refusal::Member(id))
+impl TryFrom<u64> for MemberId {
+    type Error = Refusal;
+
+    ghost try_from_gives = { λ id r. r ≡ member_or id };
+
+    fn try_from(id: u64) -> Result<MemberId, Refusal> {
+        match u8::try_from(id) {
+            Ok(id) if id <= 63 => Ok(MemberId { id }),
+            _ => Err(Refusal::Member(id)),
+        }
+    }
+}
+
+impl TryFrom<u64> for Channel {
+    type Error = Refusal;
+
+    ghost try_from_gives = { λ index r. r ≡ channel_or index };
+
+    fn try_from(index: u64) -> Result<Channel, Refusal> {
+        match u16::try_from(index) {
+            Ok(index) if index <= 511 => Ok(Channel { index }),
+            _ => Err(Refusal::Channel(index)),
         }
     }
 }
 
 impl Channel {
-    pub(crate) fn new(index: u64) -> Result<Channel, Refusal>
-        ensures { result ≡ channel_or index }
+    // The channel's place among the levels of a desk.
+    pub fn index(self) -> u16
+        ensures { result ≡ self.index }
     {
-        if index <= 511 {
-            Ok(Channel {
-                index: index as u16,
-            })
-        } else {
-            Err(Refusal::Channel(index))
-        }
+        self.index
     }
 }
 
 fn level_of(level: u64) -> Result<u16, Refusal>
     ensures { result ≡ level_or level }
 {
-    if level <= 65535 {
-        Ok(level as u16)
-    } else {
-        Err(Refusal::Level(level))
-    }
+    u16::try_from(level).map_err(|_| Refusal::Level(level))
 }
 
 pub(crate) fn count_of(count: u64) -> Result<u8, Refusal>
     ensures { result ≡ count_or count }
 {
-    if 1 <= count && count <= 32 {
-        Ok(count as u8)
-    } else {
-        Err(Refusal::LevelCount(count))
+    match u8::try_from(count) {
+        Ok(count) if 1 <= count && count <= 32 => Ok(count),
+        _ => Err(Refusal::LevelCount(count)),
     }
 }
 
 // A scene's places, filled from the front.
+#[tactic(auto, using(crate::proofs::Places::places))]
 fn places_of(levels: &[u64]) -> Result<[u16; 32], Refusal>
     requires { length levels.now ≤ 32 }
     ensures { result ≡ unless_high (first_high levels.now) (padded levels.now) }
 {
     let mut places = [0; 32];
+    // by index: of places that `iter_mut` lends to a `zip`, a proof knows only how many there are
     for (k, level) in levels.iter().enumerate() {
         places[k] = level_of(*level)?;
     }
@@ -134,7 +184,7 @@ impl Action {
     pub fn set(channel: u64, level: u64) -> Result<Action, Refusal>
         ensures { result ≡ set_or channel level }
     {
-        let channel = Channel::new(channel)?;
+        let channel = Channel::try_from(channel)?;
         let level = level_of(level)?;
         Ok(Action::Set { channel, level })
     }
@@ -142,14 +192,14 @@ impl Action {
     pub fn shift(channel: u64, step: i32) -> Result<Action, Refusal>
         ensures { result ≡ move_or channel step }
     {
-        let channel = Channel::new(channel)?;
+        let channel = Channel::try_from(channel)?;
         Ok(Action::Move { channel, step })
     }
 
     pub fn scene(first: u64, levels: &[u64]) -> Result<Action, Refusal>
         ensures { result ≡ scene_or first levels.now }
     {
-        let first = Channel::new(first)?;
+        let first = Channel::try_from(first)?;
         let count = count_of(levels.len() as u64)?;
         let levels = places_of(levels)?;
         Ok(Action::Scene(Scene {

@@ -1,94 +1,88 @@
 // A command's bytes, written to lent memory.
-ghost use Rattle.std.specs.Prelude.{◌≡◌, ◌+◌, ◌*◌, ◌≤◌, [], ◌∷◌, length, take, if◌then◌else◌, Some, None};
+ghost use Rattle.std.specs.Prelude.{◌≡◌, ◌+◌, ◌*◌, ◌≤◌, length, if◌then◌else◌, Some, None};
 ghost use Rattle.std.specs.List.{flat_map};
-ghost use Rattle.commands.specs.Bytes.{bytes2, bytes4, raised, head_bytes, action_bytes, encode, over, fits};
+ghost use Rattle.commands.specs.Bytes.{bytes2, raised, head_bytes, action_bytes, encode, over, fits};
+ghost use Rattle.commands.specs.Writer.{Puts};
 
-use crate::types::{Action, Command, Scene};
+use crate::types::{Action, Command, Kind};
 
-fn put1(out: &mut [u8], at: usize, n: u8)
-    requires { at + 1 ≤ length out.old }
-    ensures { out.new ≡ over out.old at (n ∷ []) }
-{
-    out[at] = n;
-}
-
-fn put2(out: &mut [u8], at: usize, n: u16)
-    requires { at + 2 ≤ length out.old }
-    ensures { out.new ≡ over out.old at (bytes2 n) }
-{
-    out[at..at + 2].copy_from_slice(&n.to_be_bytes());
-}
-
-fn put4(out: &mut [u8], at: usize, n: u32)
-    requires { at + 4 ≤ length out.old }
-    ensures { out.new ≡ over out.old at (bytes4 n) }
-{
-    out[at..at + 4].copy_from_slice(&n.to_be_bytes());
+// Lent memory, and how much of its front is written.
+#[derive(Drop)]
+struct Writer<'a> {
+    out: &'a mut [u8],
+    at: usize,
 }
 
 // A step as it stands in the bytes, with 2^31 added.
 fn raise(step: i32) -> u32
     ensures { result ≡ raised step }
 {
-    (step as i64 + 2147483648) as u32
+    step.abs_diff(i32::MIN)
 }
 
-// How many levels a scene has, of the 32 for which there is a place.
-fn level_count(scene: &Scene) -> usize
-    ensures bound { result ≤ 32 }
-    ensures value { result ≡ length (take scene.now.count scene.now.levels) }
-{
-    (scene.count as usize).min(32)
-}
-
-// The levels of a scene behind its count, from place 17 on.
-fn put_levels(out: &mut [u8], scene: &Scene)
-    requires { 17 + 2 * length (take scene.now.count scene.now.levels) ≤ length out.old }
-    ensures { out.new ≡ over out.old 17 (flat_map bytes2 (take scene.now.count scene.now.levels)) }
-{
-    for k in 0..level_count(scene) {
-        put2(out, 17 + 2 * k, scene.levels[k]);
+impl Writer<'_> {
+    #[tactic(auto, using(crate::proofs::Writes::parts))]
+    fn put<const N: usize>(&mut self, bytes: [u8; N])
+        requires { self.old.at + N ≤ length self.old.out.now }
+        ensures lent { self.new.out.ghost_name ≡ self.old.out.ghost_name }
+        ensures puts { Puts self.old self.new bytes.entry }
+    {
+        self.out[self.at..self.at + N].copy_from_slice(&bytes);
+        self.at += N;
     }
-}
 
-// What the command does, its kind first, from place 13 on.
-fn put_action(out: &mut [u8], action: &Action)
-    requires { 13 + length (action_bytes action.now) ≤ length out.old }
-    ensures { out.new ≡ over out.old 13 (action_bytes action.now) }
-{
-    match action {
-        Action::Set { channel, level } => {
-            put1(out, 13, 1);
-            put2(out, 14, channel.index);
-            put2(out, 16, *level);
-        }
-        Action::Move { channel, step } => {
-            put1(out, 13, 2);
-            put2(out, 14, channel.index);
-            put4(out, 16, raise(*step));
-        }
-        Action::Scene(scene) => {
-            put1(out, 13, 3);
-            put2(out, 14, scene.first.index);
-            put1(out, 16, scene.count);
-            put_levels(out, scene);
+    fn put_levels(&mut self, levels: &[u16])
+        requires { self.old.at + 2 * length levels.now ≤ length self.old.out.now }
+        ensures lent { self.new.out.ghost_name ≡ self.old.out.ghost_name }
+        ensures puts { Puts self.old self.new (flat_map bytes2 levels.now) }
+    {
+        for level in levels {
+            self.put(level.to_be_bytes());
         }
     }
-}
 
-// What stands before the kind.
-fn put_head(out: &mut [u8], command: &Command)
-    requires { 13 ≤ length out.old }
-    ensures { out.new ≡ over out.old 0 (head_bytes command.now) }
-{
-    put4(out, 0, command.view);
-    put1(out, 4, command.member.id);
-    put4(out, 5, command.number);
-    put4(out, 9, command.stamp);
+    // What the command does, its kind first.
+    fn put_action(&mut self, action: &Action)
+        requires { self.old.at + length (action_bytes action.now) ≤ length self.old.out.now }
+        ensures lent { self.new.out.ghost_name ≡ self.old.out.ghost_name }
+        ensures puts { Puts self.old self.new (action_bytes action.now) }
+    {
+        match action {
+            Action::Set { channel, level } => {
+                self.put([Kind::Set as u8]);
+                self.put(channel.index.to_be_bytes());
+                self.put(level.to_be_bytes());
+            }
+            Action::Move { channel, step } => {
+                self.put([Kind::Move as u8]);
+                self.put(channel.index.to_be_bytes());
+                self.put(raise(*step).to_be_bytes());
+            }
+            Action::Scene(scene) => {
+                self.put([Kind::Scene as u8]);
+                self.put(scene.first.index.to_be_bytes());
+                self.put([scene.count]);
+                self.put_levels(scene.levels());
+            }
+        }
+    }
+
+    // What stands before the kind.
+    fn put_head(&mut self, command: &Command)
+        requires { self.old.at + 13 ≤ length self.old.out.now }
+        ensures lent { self.new.out.ghost_name ≡ self.old.out.ghost_name }
+        ensures puts { Puts self.old self.new (head_bytes command.now) }
+    {
+        self.put(command.view.to_be_bytes());
+        self.put([command.member.id]);
+        self.put(command.number.to_be_bytes());
+        self.put(command.stamp.to_be_bytes());
+    }
 }
 
 impl Command {
     // How many bytes the command takes, at most 81.
+    #[tactic(auto, using(crate::proofs::Writes::sizes), unfolding(crate::specs::Bytes::encode))]
     fn size(&self) -> usize
         ensures bound { result ≤ 81 }
         ensures value { result ≡ length (encode self.now) }
@@ -96,7 +90,7 @@ impl Command {
         match &self.action {
             Action::Set { .. } => 18,
             Action::Move { .. } => 20,
-            Action::Scene(scene) => 17 + 2 * level_count(scene),
+            Action::Scene(scene) => 17 + 2 * scene.levels().len(),
         }
     }
 
@@ -110,8 +104,9 @@ impl Command {
         if out.len() < size {
             return None;
         }
-        put_head(out, self);
-        put_action(out, &self.action);
-        Some(size)
+        let mut writer = Writer { out, at: 0 };
+        writer.put_head(self);
+        writer.put_action(&self.action);
+        Some(writer.at)
     }
 }
