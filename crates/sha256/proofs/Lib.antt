@@ -1,3 +1,3 @@
+pub mod Chunks
 pub mod Steps
-pub mod Tail
 pub mod Whole

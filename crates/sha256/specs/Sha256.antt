@@ -90,7 +90,7 @@ abbrev pub temp2 : State → ℕ
 temp2 v = big_sigma0 v.a ⊞ majority v.a v.b v.c
 
 -- one round on the working variables, with the constant k and the schedule's word w
-abbrev pub one_round : State → ℕ → ℕ → State
+unfoldable pub one_round : State → ℕ → ℕ → State
 one_round v k w = record {
   h = v.g;
   g = v.f;
@@ -101,6 +101,10 @@ one_round v k w = record {
   b = v.a;
   a = temp1 v k w ⊞ temp2 v;
 }
+
+-- the same of a pair of them
+abbrev pub keyed_round : State → ℕ × ℕ → State
+keyed_round v p = one_round v p.0 p.1
 
 -- the working variables after the first n rounds over the schedule w
 unfoldable pub after_rounds : State → List ℕ → ℕ → State

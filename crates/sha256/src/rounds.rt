@@ -1,9 +1,11 @@
 // The compression function: 64 rounds over a block's schedule, and the hash value that they change.
-ghost use Rattle.std.specs.Prelude.{◌≡◌, ◌+◌, ◌/◌, ◌<◌, ◌≤◌, length, slice_index};
-ghost use Rattle.sha256.specs.Sha256.{round_constants, initial_hash, one_round, after_rounds, add_hash, next_hash, hashed};
+ghost use Rattle.std.specs.Prelude.{◌≡◌, fold};
+ghost use Rattle.std.specs.List.{zip};
+ghost use Rattle.std.specs.Simd.{first_chunks};
+ghost use Rattle.sha256.specs.Sha256.{round_constants, initial_hash, one_round, keyed_round, after_rounds, add_hash, next_hash, hash_bytes};
 
 use crate::schedule::schedule;
-use crate::word::{big_sigma0, big_sigma1, ch, maj};
+use crate::word::{big_sigma, ch, maj};
 
 // A hash value's eight words, or the working variables of the rounds.
 #[derive(Clone, Copy)]
@@ -29,120 +31,121 @@ const K: [u32; 64] = [
     0x748f82ee, 0x78a5636f, 0x84c87814, 0x8cc70208, 0x90befffa, 0xa4506ceb, 0xbef9a3f7, 0xc67178f2,
 ];
 
-// The constant of round t. The table is read here alone, so that no other proof meets its 64 numbers.
-fn constant(t: usize) -> u32
-    requires { t < 64 }
-    ensures { result ≡ slice_index round_constants t }
+// The rounds' constants in eights. The table is read here alone, so that no other proof meets its 64 numbers.
+#[tactic(auto, unfolding(crate::specs::Sha256::round_constants))]
+fn constants() -> &'static [[u32; 8]]
+    ensures { result.now ≡ first_chunks 8 8 round_constants }
 {
-    K[t]
+    K.as_chunks::<8>().0
 }
 
-// The hash value before the first block.
-pub(crate) fn initial() -> State
-    ensures { result ≡ initial_hash }
-{
-    State {
-        a: 0x6a09e667,
-        b: 0xbb67ae85,
-        c: 0x3c6ef372,
-        d: 0xa54ff53a,
-        e: 0x510e527f,
-        f: 0x9b05688c,
-        g: 0x1f83d9ab,
-        h: 0x5be0cd19,
+// What is done to a hash value, or to the working variables of the rounds.
+impl State {
+    // The hash value before the first block.
+    pub(crate) fn initial() -> State
+        ensures { result ≡ initial_hash }
+    {
+        State {
+            a: 0x6a09e667,
+            b: 0xbb67ae85,
+            c: 0x3c6ef372,
+            d: 0xa54ff53a,
+            e: 0x510e527f,
+            f: 0x9b05688c,
+            g: 0x1f83d9ab,
+            h: 0x5be0cd19,
+        }
     }
-}
 
-// One round, with the constant k and the schedule's word w.
-fn round(s: State, k: u32, w: u32) -> State
-    ensures { result ≡ one_round s k w }
-{
-    let t1 = s
-        .h
-        .wrapping_add(big_sigma1(s.e))
-        .wrapping_add(ch(s.e, s.f, s.g))
-        .wrapping_add(k)
-        .wrapping_add(w);
-    let t2 = big_sigma0(s.a).wrapping_add(maj(s.a, s.b, s.c));
-    State {
-        a: t1.wrapping_add(t2),
-        b: s.a,
-        c: s.b,
-        d: s.c,
-        e: s.d.wrapping_add(t1),
-        f: s.e,
-        g: s.f,
-        h: s.g,
+    // One round, with the constant k and the schedule's word w.
+    #[tactic(auto, unfolding(crate::specs::Sha256::one_round))]
+    fn round(self, k: u32, w: u32) -> State
+        ensures { result ≡ one_round self k w }
+    {
+        let t1 = self
+            .h
+            .wrapping_add(big_sigma::<6, 11, 25>(self.e))
+            .wrapping_add(ch(self.e, self.f, self.g))
+            .wrapping_add(k)
+            .wrapping_add(w);
+        let t2 = big_sigma::<2, 13, 22>(self.a).wrapping_add(maj(self.a, self.b, self.c));
+        State {
+            a: t1.wrapping_add(t2),
+            b: self.a,
+            c: self.b,
+            d: self.c,
+            e: self.d.wrapping_add(t1),
+            f: self.e,
+            g: self.f,
+            h: self.g,
+        }
     }
-}
 
-// Round t over the schedule w.
-fn numbered(s: State, w: &[u32], t: usize) -> State
-    requires { (t < 64) × (length w.now ≡ 64) }
-    ensures { result ≡ one_round s (slice_index round_constants t) (slice_index w.now t) }
-{
-    round(s, constant(t), w[t])
-}
-
-// Eight rounds from round t on. They are written out for speed: a round moves six of the eight words one place on, and after eight each is back in its place.
-fn eight_rounds(s: State, w: &[u32], t: usize) -> State
-    requires { (t + 8 ≤ 64) × (length w.now ≡ 64) }
-    ensures { (start : State) → s ≡ after_rounds start w.now t → result ≡ after_rounds start w.now (t + 8) }
-{
-    let s = numbered(s, w, t);
-    let s = numbered(s, w, t + 1);
-    let s = numbered(s, w, t + 2);
-    let s = numbered(s, w, t + 3);
-    let s = numbered(s, w, t + 4);
-    let s = numbered(s, w, t + 5);
-    let s = numbered(s, w, t + 6);
-    numbered(s, w, t + 7)
-}
-
-// All 64 rounds over the schedule w.
-fn rounds(start: State, w: &[u32]) -> State
-    requires { length w.now ≡ 64 }
-    ensures { result ≡ after_rounds start w.now 64 }
-{
-    let mut s = start;
-    for i in 0..8 {
-        s = eight_rounds(s, w, 8 * i);
+    // Eight rounds. A round moves six of the eight words one place on, and after eight each is back in its place: so clang's unrolled eight
+    // move nothing. (Tried: one fold over all 64 rounds. The whole hash took a fifth longer.)
+    fn eight_rounds(self, k: &[u32; 8], w: &[u32; 8]) -> State
+        ensures { result ≡ fold keyed_round self (zip k.now w.now) }
+    {
+        k.iter().zip(w).fold(self, |s, (k, w)| s.round(*k, *w))
     }
-    s
-}
 
-// Word by word, the sum modulo 2^32.
-fn add(x: State, y: State) -> State
-    ensures { result ≡ add_hash x y }
-{
-    State {
-        a: x.a.wrapping_add(y.a),
-        b: x.b.wrapping_add(y.b),
-        c: x.c.wrapping_add(y.c),
-        d: x.d.wrapping_add(y.d),
-        e: x.e.wrapping_add(y.e),
-        f: x.f.wrapping_add(y.f),
-        g: x.g.wrapping_add(y.g),
-        h: x.h.wrapping_add(y.h),
+    // All 64 rounds over the schedule w.
+    fn rounds(self, w: &[u32; 64]) -> State
+        ensures { result ≡ after_rounds self w.now 64 }
+    {
+        constants()
+            .iter()
+            .zip(w.as_chunks::<8>().0)
+            .fold(self, |s, (k, w)| s.eight_rounds(k, w))
     }
-}
 
-// The hash value after one more block.
-fn compress(s: State, block: &[u8]) -> State
-    requires { length block.now ≡ 64 }
-    ensures { result ≡ next_hash s block.now }
-{
-    let w = schedule(block);
-    add(rounds(s, &w), s)
-}
-
-// The hash value after the whole blocks of `bytes`; what is left over behind them is not read.
-pub(crate) fn absorb(start: State, bytes: &[u8]) -> State
-    ensures { result ≡ hashed start bytes.now (length bytes.now / 64) }
-{
-    let mut s = start;
-    for i in 0..bytes.len() / 64 {
-        s = compress(s, &bytes[64 * i..64 * i + 64]);
+    // Word by word, the sum modulo 2^32.
+    fn wrapping_add(self, other: State) -> State
+        ensures { result ≡ add_hash self other }
+    {
+        State {
+            a: self.a.wrapping_add(other.a),
+            b: self.b.wrapping_add(other.b),
+            c: self.c.wrapping_add(other.c),
+            d: self.d.wrapping_add(other.d),
+            e: self.e.wrapping_add(other.e),
+            f: self.f.wrapping_add(other.f),
+            g: self.g.wrapping_add(other.g),
+            h: self.h.wrapping_add(other.h),
+        }
     }
-    s
+
+    // The hash value after one more block.
+    fn compress(self, block: &[u8; 64]) -> State
+        ensures { result ≡ next_hash self block.now }
+    {
+        self.rounds(&schedule(block)).wrapping_add(self)
+    }
+
+    // The hash value after more blocks.
+    pub(crate) fn absorb(self, blocks: &[[u8; 64]]) -> State
+        ensures { result ≡ fold next_hash self blocks.now }
+    {
+        blocks.iter().fold(self, State::compress)
+    }
+
+    // The eight words of a hash value, one after the other, high byte first.
+    #[tactic(auto, unfolding(crate::specs::Sha256::hash_bytes, crate::specs::Sha256::word_bytes))]
+    pub(crate) fn to_bytes(self) -> [u8; 32]
+        ensures { result ≡ hash_bytes self }
+    {
+        let words = [
+            self.a.to_be_bytes(),
+            self.b.to_be_bytes(),
+            self.c.to_be_bytes(),
+            self.d.to_be_bytes(),
+            self.e.to_be_bytes(),
+            self.f.to_be_bytes(),
+            self.g.to_be_bytes(),
+            self.h.to_be_bytes(),
+        ];
+        let mut out = [0; 32];
+        out.copy_from_slice(words.as_flattened());
+        out
+    }
 }

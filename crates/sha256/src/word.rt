@@ -1,6 +1,7 @@
 // The functions on 32-bit words that the hash is made of.
-ghost use Rattle.std.specs.Prelude.{◌≡◌};
-ghost use Rattle.sha256.specs.Words.{choose, majority, big_sigma0, big_sigma1, small_sigma0, small_sigma1};
+ghost use Rattle.std.specs.Prelude.{◌≡◌, ◌<◌};
+ghost use Rattle.std.specs.Int.{rotate_right, w32};
+ghost use Rattle.sha256.specs.Words.{◌⊕◌, shr, choose, majority};
 
 // Each bit of y where x has a 1, of z where x has a 0.
 pub(crate) fn ch(x: u32, y: u32, z: u32) -> u32
@@ -16,26 +17,17 @@ pub(crate) fn maj(x: u32, y: u32, z: u32) -> u32
     (x & y) ^ (x & z) ^ (y & z)
 }
 
-pub(crate) fn big_sigma0(x: u32) -> u32
-    ensures { result ≡ big_sigma0 x }
+// Three rotations of x. A caller's numbers make of it one of the standard's Σ0 and Σ1.
+pub(crate) fn big_sigma<const A: u32, const B: u32, const C: u32>(x: u32) -> u32
+    ensures { result ≡ rotate_right w32 x A ⊕ rotate_right w32 x B ⊕ rotate_right w32 x C }
 {
-    x.rotate_right(2) ^ x.rotate_right(13) ^ x.rotate_right(22)
+    x.rotate_right(A) ^ x.rotate_right(B) ^ x.rotate_right(C)
 }
 
-pub(crate) fn big_sigma1(x: u32) -> u32
-    ensures { result ≡ big_sigma1 x }
+// Two rotations of x and a shift. A caller's numbers make of it one of the standard's σ0 and σ1.
+pub(crate) fn small_sigma<const A: u32, const B: u32, const C: u32>(x: u32) -> u32
+    requires { C < 32 }
+    ensures { result ≡ rotate_right w32 x A ⊕ rotate_right w32 x B ⊕ shr C x }
 {
-    x.rotate_right(6) ^ x.rotate_right(11) ^ x.rotate_right(25)
-}
-
-pub(crate) fn small_sigma0(x: u32) -> u32
-    ensures { result ≡ small_sigma0 x }
-{
-    x.rotate_right(7) ^ x.rotate_right(18) ^ (x >> 3)
-}
-
-pub(crate) fn small_sigma1(x: u32) -> u32
-    ensures { result ≡ small_sigma1 x }
-{
-    x.rotate_right(17) ^ x.rotate_right(19) ^ (x >> 10)
+    x.rotate_right(A) ^ x.rotate_right(B) ^ (x >> C)
 }

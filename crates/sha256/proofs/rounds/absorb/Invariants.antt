@@ -1,6 +1,0 @@
-use Rattle.std.proofs.Common.{◌≡◌}
-use Rattle.sha256.specs.Sha256.{hashed}
-use Rattle.sha256.proofs.rounds.absorb.Given as goal
-
-abbrev pub invariant-loop-i : goal.invariant-loop-i
-invariant-loop-i l = l.s ≡ hashed l.initial.s l.bytes l.i
