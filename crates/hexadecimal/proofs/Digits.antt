@@ -1,54 +1,89 @@
--- One byte more in hexadecimal. Assumes nothing.
-use Rattle.std.proofs.Common.{◌≡◌, ℕ, ◌+◌, ◌/◌, ◌%◌, ◌<◌, ◌≤◌, List, [], ◌∷◌, ◌++◌, length, get_or, take, drop, Some, None, Option, sym, refl, ap, ◌∙◌, ⊎_elim, append_assoc, append-nil, arith}
-use Rattle.std.proofs.lemmas.List.{at_drop_more, at_drop_all, drop_more, length-take, take_all, take-append-le}
-use Rattle.std.proofs.lemmas.Bool.{lt-ltb, le-ltb, cases_lt}
+-- Digits of bytes, and bytes of digits. Assumes nothing.
+use Rattle.std.proofs.Common.{◌≡◌, ℕ, ◌+◌, ◌-◌, ◌*◌, ◌/◌, ◌%◌, ◌<◌, ◌≤◌, ◌^◌, false, List, [], ◌∷◌, ◌++◌, length, get_or, take, Some, None, Ok, Err, Option, Result, sym, refl, ap, ◌∙◌, subst, ◌⊎◌, inl, inr, ⊎_elim, arith}
+use Rattle.std.proofs.lemmas.List.{take_more}
+use Rattle.std.proofs.lemmas.Bool.{lt-ltb, le-ltb, cases_lt, cases_eq}
 use Rattle.std.proofs.lemmas.Bool.Decides.{nat_tests}
+use Rattle.std.proofs.lemmas.Fmt.{hex_byte}
+use Rattle.std.specs.Fmt.{digits, padded_integral, format_spec}
+use Rattle.hex.specs.declared.error.FromHexError.{FromHexError}
+use Rattle.hex.specs.declared.error.FromHexError.TheVariants.{OutOfMemory}
+use Rattle.hex.proofs.HexLemmas.{decode_of-even, decode_of-odd, decode_of-ok, decode_of-err, decode_pairs-err}
+use Rattle.hex.specs.Hex.{hex_digit_value, pair_value, value_at, digit_or_error, decode_pairs, decode_of, ◌>>=◌}
 use Rattle.hexadecimal.specs.Hex.{hex_digit, hex_value, hex_of, joined, byte_of, before, bytes_of, ReadsBack}
-use Rattle.hexadecimal.specs.Unhexed.{onto}
+use Rattle.hexadecimal.specs.Unhexed.{Told, refusal_of}
 
--- what was there stays in front
-pub kept_none : (xs : List ℕ) → take (length xs) xs ≡ xs
-kept_none xs = take_all (length xs) xs (omega arith)
-
-pub kept_more : (old xs ys : List ℕ) → take (length old) xs ≡ old → take (length old) (xs ++ ys) ≡ old
-kept_more old xs ys e =
-    let fits : length old ≤ length xs = omega (arith, ap length e, length-take (length old) xs) in
-    take-append-le (length old) xs ys fits ∙ e
-
--- writing
-pub hex_more : (xs s : List ℕ) (i : ℕ) → i < length s → (xs ++ hex_digit (get_or s i 0 / 16) ∷ hex_digit (get_or s i 0 % 16) ∷ []) ++ hex_of (drop (i + 1) s) ≡ xs ++ hex_of (drop i s)
+-- printing
+hex_behind : (xs : List ℕ) (b : ℕ) → hex_of (xs ++ b ∷ []) ≡ hex_of xs ++ hex_digit (b / 16) ∷ hex_digit (b % 16) ∷ []
 unfolding hex_of
-hex_more xs s i h = append_assoc xs _ _ ∙ ap (λ l. xs ++ l) (sym (at_drop_more hex_of s i 0 h))
+hex_behind [] b = refl
+hex_behind (x ∷ xs) b = ap (λ l. hex_digit (x / 16) ∷ hex_digit (x % 16) ∷ l) (hex_behind xs b)
 
-pub hex_all : (xs s : List ℕ) (i : ℕ) → length s ≤ i → xs ++ hex_of (drop i s) ≡ xs
-unfolding hex_of
-hex_all xs s i h = ap (λ l. xs ++ l) (at_drop_all hex_of s i h) ∙ append-nil xs
+pub hex_printed : (s : List ℕ) (i b : ℕ) → i < length s → b ≡ get_or s i 0 → b < 256 → hex_of (take i s) ++ padded_integral (format_spec 32 0 4 2 (2 ^ 64 - 1)) false [] (digits 16 false b) ≡ hex_of (take (i + 1) s)
+hex_printed s i b h e small =
+    ap (λ l. hex_of (take i s) ++ l) (hex_byte false b small)
+    ∙ sym (hex_behind (take i s) b)
+    ∙ ap (λ d. hex_of (take i s ++ d ∷ [])) e
+    ∙ ap hex_of (sym (take_more s i 0 h))
 
--- reading
-two_left : (s : List ℕ) (i : ℕ) → i + 1 < length s → drop i s ≡ get_or s i 0 ∷ get_or s (i + 1) 0 ∷ drop (i + 2) s
-two_left s i h =
-    drop_more s i 0 (omega arith)
-    ∙ ap (λ l. get_or s i 0 ∷ l) (drop_more s (i + 1) 0 h ∙ ap (λ n. get_or s (i + 1) 0 ∷ drop n s) (omega arith))
+-- reading: the library's words against ours
+value_same : (c : ℕ) → hex_digit_value c ≡ hex_value c
+value_same c = grind (arith, nat_tests)
 
-onto_before : (xs : List ℕ) (b : ℕ) (o : Option (List ℕ)) → onto (xs ++ b ∷ []) o ≡ onto xs (before (Some b) o)
-onto_before xs b None = refl
-onto_before xs b (Some bs) = ap Some (append_assoc xs (b ∷ []) bs)
+abbrev bytes_in : {A : Type 0} → Result A FromHexError → Option A
+bytes_in (Ok x) = Some x
+bytes_in (Err e) = None
 
-pub bytes_more : (xs s : List ℕ) (i b : ℕ) → i + 1 < length s → byte_of (get_or s i 0) (get_or s (i + 1) 0) ≡ Some b → onto (xs ++ b ∷ []) (bytes_of (drop (i + 2) s)) ≡ onto xs (bytes_of (drop i s))
-unfolding bytes_of
-bytes_more xs s i b h e = onto_before xs b _ ∙ ap (λ o. onto xs (before o (bytes_of (drop (i + 2) s)))) (sym e) ∙ ap (λ l. onto xs (bytes_of l)) (sym (two_left s i h))
+value_in : (c i : ℕ) → bytes_in (value_at c i) ≡ hex_value c
+value_in c i = from_value (hex_digit_value c) ∙ value_same c
+  where
+    from_value : (o : Option ℕ) → bytes_in (digit_or_error c i o) ≡ o
+    from_value None = refl
+    from_value (Some v) = refl
 
-pub bytes_stops : (xs s : List ℕ) (i : ℕ) → i + 1 < length s → byte_of (get_or s i 0) (get_or s (i + 1) 0) ≡ None → onto xs (bytes_of (drop i s)) ≡ None
-unfolding bytes_of
-bytes_stops xs s i h e = ap (λ l. onto xs (bytes_of l)) (two_left s i h) ∙ ap (λ o. onto xs (before o (bytes_of (drop (i + 2) s)))) e
+pair_in : (a b i : ℕ) → bytes_in (pair_value a b i) ≡ byte_of a b
+unfolding byte_of
+pair_in a b i =
+    both (value_at a i) (value_at b (i + 1))
+    ∙ ap (λ o. joined o (bytes_in (value_at b (i + 1)))) (value_in a i)
+    ∙ ap (joined (hex_value a)) (value_in b (i + 1))
+  where
+    both : (r t : Result ℕ FromHexError) → bytes_in (r >>= (λ h. t >>= (λ l. Ok (h * 16 + l)))) ≡ joined (bytes_in r) (bytes_in t)
+    both (Err e) t = refl
+    both (Ok h) (Err e) = refl
+    both (Ok h) (Ok l) = ap Some (omega arith)
 
-pub bytes_all : (xs s : List ℕ) (i : ℕ) → length s ≤ i → onto xs (bytes_of (drop i s)) ≡ Some xs
-unfolding bytes_of
-bytes_all xs s i h = ap (λ l. onto xs (bytes_of l)) (at_drop_all (λ l. l) s i h) ∙ ap Some (append-nil xs)
+pub pairs_in : (i : ℕ) (s : List ℕ) → bytes_in (decode_pairs i s) ≡ bytes_of s
+unfolding decode_pairs bytes_of
+pairs_in i [] = refl
+pairs_in i (a ∷ []) = refl
+pairs_in i (a ∷ b ∷ s) = by (pair_value a b i) (decode_pairs (i + 2) s) ∙ ap (λ o. before o (bytes_in (decode_pairs (i + 2) s))) (pair_in a b i) ∙ ap (before (byte_of a b)) (pairs_in (i + 2) s)
+  where
+    by : (r : Result ℕ FromHexError) (t : Result (List ℕ) FromHexError) → bytes_in (r >>= (λ x. t >>= (λ xs. Ok (x ∷ xs)))) ≡ before (bytes_in r) (bytes_in t)
+    by (Err e) t = refl
+    by (Ok x) (Err e) = refl
+    by (Ok x) (Ok xs) = refl
 
-pub from_onto : (xs : List ℕ) (o : Option (List ℕ)) → onto xs o ≡ None → o ≡ None
-from_onto xs None e = refl
-from_onto xs (Some ys) e = cc
+in_even : (s : List ℕ) → length s % 2 ≡ 0 → bytes_of s ≡ bytes_in (decode_of s)
+in_even s even = sym (pairs_in 0 s) ∙ ap bytes_in (sym (decode_of-even s even))
+
+pub decoded : (s xs : List ℕ) → decode_of s ≡ Ok xs → (length s % 2 ≡ 0) × (bytes_of s ≡ Some xs)
+decoded s xs is =
+    let even = (decode_of-ok s xs is).0 in
+    (even, in_even s even ∙ ap bytes_in is)
+
+pub refused : (s : List ℕ) (e : FromHexError) → (e ≡ OutOfMemory) ⊎ (decode_of s ≡ Err e) → Told s (refusal_of e)
+refused s e (inl memory) = subst (λ x. Told s (refusal_of x)) (sym memory) tt
+refused s e (inr is) =
+    elim (cases_eq (length s % 2) 1) [
+      | inl odd ↦ elim (decode_of-err s e is) [
+        | inl p ↦ subst (λ x. Told s (refusal_of x)) (sym p.1) odd
+        | inr p ↦ cc (sym (decode_of-odd s odd) ∙ is ∙ ap Err p.1)
+      ]
+      | inr other ↦
+          let even : length s % 2 ≡ 0 = omega arith in
+          let first = decode_pairs-err 0 s e even (sym (decode_of-even s even) ∙ is) in
+          rw first.1 (even, in_even s even ∙ ap bytes_in is)
+    ]
 
 -- the law
 value_digit : (n : ℕ) → n < 16 → hex_value (hex_digit n) ≡ Some n

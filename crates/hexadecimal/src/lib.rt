@@ -1,123 +1,73 @@
 // Bytes in hexadecimal: two digits a byte, read in either case and written in lower case.
 #![tactic(auto)]
 
-ghost use Rattle.std.specs.Prelude.{◌≡◌, ◌%◌, ◌<◌, true, ◌++◌, length, take, is_ok, if◌then◌else◌};
+ghost use Rattle.std.specs.Prelude.{◌≡◌, Some};
 ghost use Rattle.hexadecimal.specs.declared.HexError.TheVariants.{Memory};
-ghost use Rattle.hexadecimal.specs.Hex.{hex_digit, hex_value, hex_of, byte_of, ReadsBack};
-ghost use Rattle.hexadecimal.specs.Unhexed.{Unhexed, Decoded};
+ghost use Rattle.hexadecimal.specs.Hex.{hex_of, ReadsBack};
+ghost use Rattle.hexadecimal.specs.Unhexed.{Unhexed, refusal_of};
 
-use std::alloc::{AllocError, AllocFailed};
+use hex::FromHexError;
+use std::alloc::{AllocError, Global};
+use std::fmt;
+use thiserror::Error;
 
 // Why a word was not read as hexadecimal.
-#[derive(Clone, Copy)]
+#[derive(Clone, Copy, Debug, Error)]
 pub enum HexError {
-    // an odd number of bytes
+    #[error("an odd number of digits")]
     Odd,
-    // a byte that is no digit
+    #[error("a byte that is no digit")]
     NoDigit,
-    Memory,
+    #[error(transparent)]
+    Memory(AllocError),
 }
 
 impl From<AllocError> for HexError {
-    ghost from_gives = { λ _ r. r ≡ Memory };
+    ghost from_gives = { λ e r. r ≡ Memory e };
 
-    fn from(_e: AllocError) -> HexError {
-        HexError::Memory
+    fn from(e: AllocError) -> HexError {
+        HexError::Memory(e)
     }
 }
 
-impl<T: Drop> From<AllocFailed<T>> for HexError {
-    ghost from_gives = { λ _ r. r ≡ Memory };
+impl From<FromHexError> for HexError {
+    ghost from_gives = { λ e r. r ≡ refusal_of e };
 
-    fn from(_e: AllocFailed<T>) -> HexError {
-        HexError::Memory
+    fn from(e: FromHexError) -> HexError {
+        match e {
+            FromHexError::OddLength => HexError::Odd,
+            FromHexError::OutOfMemory => HexError::Memory(AllocError),
+            _ => HexError::NoDigit,
+        }
     }
 }
 
-// Appends the digits of `bytes`. Where memory fails, `out` is as it was.
-pub fn push_hex(out: &mut Vec<u8>, bytes: &[u8]) -> Result<(), AllocError>
-    ensures { out.new.items ≡ (if is_ok result then out.old.items ++ hex_of bytes.now else out.old.items) }
+// Bytes that are printed in digits.
+#[derive(Clone, Copy)]
+pub struct Hex<'a>(pub &'a [u8]);
+
+impl<'a> fmt::Display for Hex<'a> {
+    ghost output = { λ h. Some (hex_of h.0.now) };
+
+    #[tactic(auto, unfolding(crate::specs::Hex::hex_of))]
+    fn fmt<W: fmt::Write>(&self, f: &mut fmt::Formatter<W>) -> fmt::Result {
+        for &b in self.0 {
+            write!(f, "{b:02x}")?;
+        }
+        Ok(())
+    }
+}
+
+// The bytes that a word writes.
+#[tactic(auto, using(crate::proofs::Digits::decoded, crate::proofs::Digits::refused))]
+pub fn unhex(word: &[u8], heap: Global) -> Result<Vec<u8>, HexError>
+    ensures { Unhexed word.now result }
 {
-    let before = out.len();
-    let done = encode(out, bytes);
-    if done.is_err() {
-        out.truncate(before);
-    }
-    done
+    Ok(hex::decode(heap, word)?)
 }
 
-// The same, but for what it leaves where memory fails: some of the digits may stand behind what `out` held.
-fn encode(out: &mut Vec<u8>, bytes: &[u8]) -> Result<(), AllocError>
-    ensures kept { take (length out.old.items) out.new.items ≡ out.old.items }
-    ensures all { is_ok result ≡ true → out.new.items ≡ out.old.items ++ hex_of bytes.now }
-{
-    for b in bytes {
-        let digits = [digit_of(*b / 16), digit_of(*b % 16)];
-        out.extend_from_slice(&digits)?;
-    }
-    Ok(())
-}
-
-fn digit_of(n: u8) -> u8
-    requires { n < 16 }
-    ensures { result ≡ hex_digit n }
-{
-    if n < 10 { b'0' + n } else { b'a' + (n - 10) }
-}
-
-fn value_of(b: u8) -> Option<u8>
-    ensures { result ≡ hex_value b }
-{
-    match b {
-        b'0'..=b'9' => Some(b - b'0'),
-        b'a'..=b'f' => Some(b - b'a' + 10),
-        b'A'..=b'F' => Some(b - b'A' + 10),
-        _ => None,
-    }
-}
-
-fn byte_of(high: u8, low: u8) -> Option<u8>
-    ensures { result ≡ byte_of high low }
-{
-    let h = value_of(high)?;
-    let l = value_of(low)?;
-    Some(16 * h + l)
-}
-
-// Appends the bytes that a word writes. Where it is refused, `out` is as it was.
-pub fn unhex(word: &[u8], out: &mut Vec<u8>) -> Result<(), HexError>
-    ensures { Unhexed word.now out.old.items result out.new.items }
-{
-    if word.len() % 2 == 1 {
-        return Err(HexError::Odd);
-    }
-    let before = out.len();
-    let done = decode(word, out);
-    if done.is_err() {
-        out.truncate(before);
-    }
-    done
-}
-
-// The same, but for what a refusal leaves: some of the bytes may stand behind what `out` held.
-fn decode(word: &[u8], out: &mut Vec<u8>) -> Result<(), HexError>
-    requires { length word.now % 2 ≡ 0 }
-    ensures { Decoded word.now out.old.items result out.new.items }
-{
-    let mut i = 0;
-    while i < word.len() {
-        let Some(byte) = byte_of(word[i], word[i + 1]) else {
-            return Err(HexError::NoDigit);
-        };
-        out.push(byte)?;
-        i += 2;
-    }
-    Ok(())
-}
-
-// What `push_hex` writes, `unhex` reads back.
-pub fn hex_reads_back() -> u8
+// What `Hex` prints, `unhex` reads back.
+#[tactic(auto, using(crate::proofs::Digits::reads_back))]
+pub fn hex_reads_back()
     ensures { ReadsBack }
-{
-    0
-}
+{}

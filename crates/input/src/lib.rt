@@ -1,52 +1,104 @@
-// The lines of a stream. What is read is in no contract; what is kept of it is.
+// The lines of a stream.
 #![tactic(auto)]
 
-ghost use Rattle.std.specs.Prelude.{◌≡◌, ℕ, ◌<◌, ◌++◌, length, if◌then◌else◌, vec_len, MatchOption, OnOk, ◌≢◌, nat_le, slice_index};
+ghost use Rattle.std.specs.Prelude.{◌≡◌, ◌≢◌, ◌<◌, ◌≤◌, ◌-◌, ◌++◌, ℕ, List, All, length, take, OnOk, IfOk, IfSome, MatchOption, MatchBool};
+ghost use Rattle.std.specs.Borrow.{sem};
+ghost use Rattle.std.specs.Io.{StopsAt};
+ghost use Rattle.std.specs.Io.BufRead.{strip_last, DropsThrough, Rests};
+ghost use Rattle.input.specs.contracts.Lines.{the_row};
+ghost use Rattle.input.specs.Line.{kept, kept_line, IsPart};
 
-use std::alloc::AllocError;
+use std::alloc::{AllocError, Global};
 use std::io;
 use std::io::BufRead;
 use text::LONGEST;
 
-// Where the line ends in what has been read.
-fn line_end(held: &[u8]) -> Option<usize>
-    ensures { MatchOption result ((k : ℕ) → k < length held.now → slice_index held.now k ≢ 10) (λ i. (i < length held.now) × (slice_index held.now i ≡ 10) × ((k : ℕ) → k < i → slice_index held.now k ≢ 10)) }
-{
-    for (i, b) in held.iter().enumerate() {
-        if *b == b'\n' {
-            return Some(i);
-        }
-    }
-    None
+// Of a line no more than this is kept: one byte more than a line may have shows that it is too long.
+const MOST: usize = LONGEST + 1;
+
+// The lines of a stream, one after the other.
+#[derive(Drop)]
+pub struct Lines<R> {
+    from: R,
+    line: Vec<u8>,
 }
 
-// A part of a line behind what there is of it; of a line that is too long already, no more is kept.
+impl<R: BufRead> Lines<R> {
+    pub fn new(heap: Global, from: R) -> Lines<R>
+        ensures { result.from ≡ from }
+    {
+        Lines {
+            from,
+            line: Vec::new(heap),
+        }
+    }
+
+    // The next line without its end, as far as it is kept; `None` at the end of the stream.
+    #[tactic(auto, using(crate::proofs::Kept::stripped_line, crate::proofs::Kept::next_known))]
+    pub fn next_line(&mut self) -> io::Result<Option<&[u8]>>
+        ensures short { IfOk result (λ o. IfSome o (λ line. length line.now ≤ 12000001)) }
+        ensures one { IfOk result (λ o. IfSome o (λ line. All (λ b. b ≢ 10) line.now)) }
+        ensures* rest { sem 𝓛 (Rests (the_row R.row) self.entry (λ left. OnOk result (DropsThrough (R.remaining self.old.from) (R.remaining left.from) 10))) }
+        ensures known { IfOk result (λ o. IfSome (R.remaining self.old.from) (λ xs. MatchOption o (length xs ≡ 0) (λ line. (0 < length xs) × (line.now ≡ kept_line xs)))) }
+    {
+        if self.read()? {
+            Ok(Some(without_end(&self.line)))
+        } else {
+            Ok(None)
+        }
+    }
+
+    // Reads the next line with its end, as far as it is kept, and passes over the rest; false at the end of the stream.
+    fn read(&mut self) -> io::Result<bool>
+        ensures short { OnOk result (length self.new.line.items ≤ 12000001) }
+        ensures one { OnOk result (StopsAt self.new.line.items 10) }
+        ensures known { IfOk result (λ any. IfSome (R.remaining self.old.from) (λ xs. (self.new.line.items ≡ kept xs) × MatchBool any (0 < length xs) (length xs ≡ 0))) }
+        ensures rest { OnOk result (DropsThrough (R.remaining self.old.from) (R.remaining self.new.from) 10) }
+    {
+        self.line.clear();
+        for _ in 0..u64::MAX {
+            if take_part(&mut self.from, &mut self.line)? {
+                return Ok(!self.line.is_empty());
+            }
+        }
+        // No stream has a line of so many parts.
+        Err(io::Error::from(io::ErrorKind::TimedOut))
+    }
+}
+
+// Takes what the reader holds of a line; true where the line or the stream ends there.
+fn take_part<R: BufRead>(from: &mut R, line: &mut Vec<u8>) -> io::Result<bool>
+    ensures { IfOk result (λ done. length line.old.items ≤ 12000001 → (bs : List ℕ) × IsPart done bs (R.remaining from.old) (R.remaining from.new) × (line.new.items ≡ take 12000001 (line.old.items ++ bs))) }
+{
+    let held = from.fill_buf()?;
+    let size = through_end(held);
+    let done = size == 0 || held[size - 1] == b'\n';
+    keep(line, &held[..size])?;
+    from.consume(size);
+    Ok(done)
+}
+
+// How many bytes stand through the first line feed; all where there is none.
+fn through_end(held: &[u8]) -> usize
+    ensures within { result ≤ length held.now }
+    ensures some { 0 < length held.now → 0 < result }
+    ensures before { All (λ b. b ≢ 10) (take (result - 1) held.now) }
+{
+    held.iter()
+        .position(|b| *b == b'\n')
+        .map_or(held.len(), |i| i + 1)
+}
+
+// A part of a line behind what there is of it, as far as it is kept.
 fn keep(line: &mut Vec<u8>, part: &[u8]) -> Result<(), AllocError>
-    ensures { OnOk result (line.new.items ≡ (if nat_le (vec_len line.old) 12000000 then line.old.items ++ part.now else line.old.items)) }
+    ensures { OnOk result (length line.old.items ≤ 12000001 → line.new.items ≡ take 12000001 (line.old.items ++ part.now)) }
 {
-    if line.len() <= LONGEST {
-        line.extend_from_slice(part)?;
-    }
-    Ok(())
+    let room = MOST.saturating_sub(line.len());
+    line.extend_from_slice(&part[..part.len().min(room)])
 }
 
-// The next line into `line`, without its end; false where there is none.
-pub fn read_line<R: BufRead>(from: &mut R, line: &mut Vec<u8>) -> io::Result<bool> {
-    let mut any = false;
-    for _ in 0..u64::MAX {
-        let held = from.fill_buf()?;
-        let size = held.len();
-        if size == 0 {
-            return Ok(any);
-        }
-        if let Some(end) = line_end(held) {
-            keep(line, &held[0..end])?;
-            from.consume(end + 1);
-            return Ok(true);
-        }
-        keep(line, held)?;
-        from.consume(size);
-        any = true;
-    }
-    Ok(any)
+fn without_end(line: &[u8]) -> &[u8]
+    ensures { result.now ≡ strip_last 10 line.now }
+{
+    line.strip_suffix(b"\n").unwrap_or(line)
 }

@@ -1,23 +1,11 @@
 -- One digit more of a number. Assumes nothing.
-use Rattle.std.proofs.Common.{◌≡◌, ℕ, ◌+◌, ◌-◌, ◌*◌, ◌^◌, ◌<◌, ◌≤◌, Bool, true, false, ◌&&◌, ltb, List, [], ◌∷◌, length, get_or, drop, pos, neg_ℤ, Some, None, Option, sym, refl, ap, ◌∙◌, arith}
-use Rattle.std.specs.Option.{SomeIff}
+use Rattle.std.proofs.Common.{◌≡◌, ℕ, ◌+◌, ◌-◌, ◌*◌, ◌^◌, ◌<◌, ◌≤◌, Bool, true, false, ◌&&◌, ltb, List, [], ◌∷◌, length, get_or, drop, pos, neg_ℤ, Some, None, Option, Ok, Err, Result, FitsSigned, w32, ℤ, sym, refl, ap, ◌∙◌, arith}
+use Rattle.std.specs.Result.{OkIff, result_ok}
+use Rattle.std.proofs.lemmas.Int.{ints}
 use Rattle.std.proofs.lemmas.List.{at_drop_more, at_drop_all}
-use Rattle.std.proofs.lemmas.Bool.{lt-ltb, le-ltb, ltb-false, le-leb, lt-leb, eq-eqb, ne_eqb}
+use Rattle.std.proofs.lemmas.Bool.{lt-ltb, le-ltb, ltb-false, eq-eqb, ne_eqb}
 use Rattle.std.proofs.lemmas.Bool.Decides.{nat_tests}
 use Rattle.text.specs.Numeral.{digit, all_digits, value_after, read_after, appended, number_of, step_of, raised, lowered}
-
-pub append_some : (n b : ℕ) → 48 ≤ b → b ≤ 57 → 10 * n + (b - 48) < 2 ^ 64 → appended n b ≡ Some (10 * n + (b - 48))
-unfolding appended digit
-append_some n b low high fits = rw (le-leb 48 b low, le-leb b 57 high, lt-ltb _ _ fits)
-
-pub append_none : (n b : ℕ) → (48 ≤ b → b ≤ 57 → 10 * n + (b - 48) < 2 ^ 64 → ⊥) → appended n b ≡ None
-unfolding appended digit
-append_none n b not = grind (arith, nat_tests)
-
--- what `checked_add` says of the sum k
-pub append_checked : (n b k : ℕ) (r : Option ℕ) → 48 ≤ b → b ≤ 57 → k ≡ 10 * n + (b - 48) → SomeIff r (k < 2 ^ 64) k → r ≡ appended n b
-append_checked n b k None low high e not = sym (append_none n b (λ _ _ fits. not (omega arith)))
-append_checked n b k (Some x) low high e is = ap Some (is.1 ∙ e) ∙ sym (append_some n b low high (omega (arith, is.0)))
 
 value_ge : (n : ℕ) (bs : List ℕ) → n ≤ value_after n bs
 unfolding value_after
@@ -82,19 +70,13 @@ module _ (s : List ℕ) (b : ℕ) (bs : List ℕ) (e : s ≡ b ∷ bs) where
   unfolding step_of
   step_plain other none = rw (e, ne_eqb _ 45 other, ne_eqb _ 43 none)
 
-module _ (o : Option ℕ) (n : ℕ) (e : o ≡ Some n) where
-  pub raised_some : n < 2147483648 → raised o ≡ Some (pos n)
-  unfolding raised
-  raised_some h = rw (e, lt-ltb _ _ h)
+-- a size, as a number with a sign, after what the conversions say
+pub raised_is : {E : Type 0} (n : ℕ) (r : Result ℤ E) → OkIff r (FitsSigned w32 (pos n)) (pos n) → result_ok r ≡ raised (Some n)
+unfolding raised
+raised_is n (Ok x) is = grind (arith, ints, nat_tests)
+raised_is n (Err e) is = grind (arith, ints, nat_tests)
 
-  pub raised_none : 2147483648 ≤ n → raised o ≡ None
-  unfolding raised
-  raised_none h = rw (e, le-ltb _ _ h)
-
-  pub lowered_some : n ≤ 2147483648 → lowered o ≡ Some (neg_ℤ (pos n))
-  unfolding lowered
-  lowered_some h = rw (e, le-leb _ _ h)
-
-  pub lowered_none : 2147483648 < n → lowered o ≡ None
-  unfolding lowered
-  lowered_none h = rw (e, lt-leb _ _ h)
+pub lowered_is : {E : Type 0} (n : ℕ) (z : ℤ) (r : Result ℤ E) → z ≡ neg_ℤ (pos n) → OkIff r (FitsSigned w32 z) z → result_ok r ≡ lowered (Some n)
+unfolding lowered
+lowered_is n z (Ok x) e is = grind (arith, ints, nat_tests)
+lowered_is n z (Err f) e is = grind (arith, ints, nat_tests)

@@ -1,4 +1,4 @@
-// The text of the programs' lines: words, numbers and steps, read from bytes and written to bytes.
+// The text of the programs' lines: words, numbers and steps, read from bytes.
 #![tactic(auto)]
 
 pub mod numbers;
