@@ -3,43 +3,35 @@
 
 mod work;
 
-use anyhow::anyhow;
+use anyhow::bail;
 use commands::types::Command;
+use hexadecimal::Hex;
 use sha256::digest;
 use std::alloc::Global;
 use std::env;
 use std::time::Instant;
 use work::{Draws, checksum, command, deliver_all};
 
+const USAGE: &str = "usage: bench [sha MEBIBYTES | history COMMANDS]";
+
 // As many commands as asked for.
 fn commands_made(heap: Global, count: u32) -> anyhow::Result<Vec<Command>> {
     let mut draws = Draws::new();
     let mut made = Vec::new(heap);
     for turn in 0..count {
-        let Ok(next) = command(turn, &mut draws) else {
-            return Err(anyhow!("a command was refused"));
-        };
-        made.push(next)?;
+        made.push(command(turn, &mut draws)?)?;
     }
     Ok(made)
 }
 
-fn print_digest(rt: &HostRuntime, digest: [u8; 32]) -> anyhow::Result<()> {
-    print!(rt; ", digest ")?;
-    for byte in digest {
-        print!(rt; "{byte:02x}")?;
-    }
-    Ok(())
-}
-
 // A message of so many mebibytes hashed; how many nanoseconds that took.
 fn hash(rt: &HostRuntime, mebibytes: u32) -> anyhow::Result<u128> {
-    let message = vec![in rt.alloc(); b'a'; mebibytes as usize * 1048576]?;
+    let message = vec![in rt.alloc(); b'a'; usize::try_from(mebibytes)? * 1048576]?;
     let start = Instant::now(rt)?;
     let digest = digest(message.as_slice());
     let nanoseconds = start.elapsed(rt)?.as_nanos();
-    print!(rt; "{mebibytes} MiB")?;
-    print_digest(rt, digest)?;
+    let digest = Hex(&digest);
+    print!(rt; "{mebibytes} MiB, digest {digest}")?;
     Ok(nanoseconds)
 }
 
@@ -52,9 +44,8 @@ fn deliver(rt: &HostRuntime, count: u32) -> anyhow::Result<u128> {
     let nanoseconds = start.elapsed(rt)?.as_nanos();
     let delivered = record.count;
     let sum = checksum(&levels);
-    print!(rt; "{delivered} commands")?;
-    print_digest(rt, record.digest)?;
-    print!(rt; ", levels {sum}")?;
+    let digest = Hex(&record.digest);
+    print!(rt; "{delivered} commands, digest {digest}, levels {sum}")?;
     Ok(nanoseconds)
 }
 
@@ -70,13 +61,13 @@ fn run(rt: &HostRuntime) -> anyhow::Result<()> {
         return Ok(());
     };
     let Some(size) = args.next() else {
-        return Err(anyhow!("usage: bench [sha MEBIBYTES | history COMMANDS]"));
+        bail!("{USAGE}");
     };
     let size = size.as_str().parse::<u32>()?;
     let nanoseconds = match work.as_str() {
         "sha" => hash(rt, size)?,
         "history" => deliver(rt, size)?,
-        _ => return Err(anyhow!("usage: bench [sha MEBIBYTES | history COMMANDS]")),
+        _ => bail!("{USAGE}"),
     };
     println!(rt; ", {nanoseconds} ns")?;
     Ok(())

@@ -1,8 +1,10 @@
 // The commands of a run, made by a simple rule, and what is measured over them.
-ghost use Rattle.std.specs.Prelude.{◌≡◌, ◌+◌, ◌/◌, ◌^◌, ◌<◌, ◌≤◌, [], map, take};
-ghost use Rattle.history.specs.History.{Delivered, levels_of, record_of};
-ghost use Rattle.bench.specs.Work.{next_of, draws_from, scene_from, action_from, command_from, checksum_of};
+ghost use Rattle.std.specs.Prelude.{◌≡◌, ◌+◌, ◌/◌, ◌^◌, ◌<◌, ◌≤◌, [], map, pos, ◌-ℤ◌};
+ghost use Rattle.history.specs.declared.Event.TheVariants.{Delivered};
+ghost use Rattle.history.specs.History.{levels_of, record_of};
+ghost use Rattle.bench.specs.Work.{next_of, steps_on, draws_from, scene_from, action_from, command_from, checksum_of};
 
+use arrayvec::ArrayVec;
 use commands::types::{Action, Command, MemberId, Refusal};
 use history::Record;
 
@@ -25,17 +27,27 @@ impl Draws {
         ensures after { self.new.last ≡ next_of self.old.last }
     {
         self.last = self.last.wrapping_mul(1664525).wrapping_add(1013904223);
-        (self.last / 65536) as u16
+        u16::try_from(self.last / 65536).unwrap()
     }
 
-    // As many draws as asked for, from the front on.
-    fn several(&mut self, count: usize) -> [u64; 32]
-        requires { count ≤ 32 }
-        ensures { take count result ≡ draws_from self.old.last count }
+    // A signed step of 16 bits, of the next draw.
+    fn step(&mut self) -> i32
+        ensures value { result ≡ pos (next_of self.old.last / 65536) -ℤ pos 32768 }
+        ensures after { self.new.last ≡ next_of self.old.last }
     {
-        let mut all = [0; 32];
-        for k in 0..count {
-            all[k] = self.draw() as u64;
+        i32::from(self.draw()) - 32768
+    }
+
+    // As many draws as asked for.
+    #[tactic(auto, unfolding(crate::specs::Work::steps_on, crate::specs::Work::draws_from))]
+    fn several(&mut self, count: u16) -> ArrayVec<u64, 32>
+        requires { count ≤ 32 }
+        ensures drawn { result.items ≡ draws_from self.old.last count }
+        ensures after { self.new.last ≡ steps_on self.old.last count }
+    {
+        let mut all = ArrayVec::new();
+        for _ in 0..count {
+            all.push(u64::from(self.draw()));
         }
         all
     }
@@ -45,19 +57,18 @@ impl Draws {
 fn scene(channel: u64, draws: &mut Draws) -> Result<Action, Refusal>
     ensures { result ≡ scene_from channel draws.old.last }
 {
-    let count = draws.draw() as usize % 32 + 1;
-    let levels = draws.several(count);
-    Action::scene(channel, &levels[0..count])
+    let count = draws.draw() % 32 + 1;
+    Action::scene(channel, draws.several(count).as_slice())
 }
 
 // The kinds in turn: one level set, one moved, a scene.
 fn action(turn: u32, draws: &mut Draws) -> Result<Action, Refusal>
     ensures { result ≡ action_from turn draws.old.last }
 {
-    let channel = draws.draw() as u64 % 512;
+    let channel = u64::from(draws.draw() % 512);
     match turn % 3 {
-        0 => Action::set(channel, draws.draw() as u64),
-        1 => Action::shift(channel, draws.draw() as i32 - 32768),
+        0 => Action::set(channel, u64::from(draws.draw())),
+        1 => Action::shift(channel, draws.step()),
         _ => scene(channel, draws),
     }
 }
@@ -67,7 +78,7 @@ pub(crate) fn command(turn: u32, draws: &mut Draws) -> Result<Command, Refusal>
     requires { turn + 1 < 2 ^ 32 }
     ensures { result ≡ command_from turn draws.old.last }
 {
-    let member = MemberId::new(turn as u64 % 8)?;
+    let member = MemberId::try_from(u64::from(turn % 8))?;
     let action = action(turn, draws)?;
     Command::new(0, member, turn / 8 + 1, turn + 1, action)
 }
@@ -76,20 +87,14 @@ pub(crate) fn command(turn: u32, draws: &mut Draws) -> Result<Command, Refusal>
 pub(crate) fn deliver_all(commands: &[Command], levels: &mut [u16]) -> Record
     ensures { levels.old ≡ levels_of [] → (result ≡ record_of (map Delivered commands.now)) × (levels.new ≡ levels_of (map Delivered commands.now)) }
 {
-    let mut record = Record::new();
-    for command in commands {
-        record = record.deliver(levels, command);
-    }
-    record
+    Record::new().deliver_all(levels, commands)
 }
 
 // One number that most changes of the levels change.
 pub(crate) fn checksum(levels: &[u16]) -> u32
     ensures { result ≡ checksum_of levels.now }
 {
-    let mut sum = 0u32;
-    for level in levels {
-        sum = sum.wrapping_mul(31).wrapping_add(*level as u32);
-    }
-    sum
+    levels.iter().fold(0, |sum: u32, level| {
+        sum.wrapping_mul(31).wrapping_add(u32::from(*level))
+    })
 }

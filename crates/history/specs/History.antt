@@ -1,15 +1,12 @@
 -- What a member has done, in order, and what that makes: levels, count and digest.
-use Rattle.std.specs.Prelude.{ℕ, ◌+◌, ◌%◌, ◌^◌, List, [], ◌∷◌, ◌++◌, replicate}
+use Rattle.std.specs.Prelude.{ℕ, ◌+◌, ◌%◌, ◌^◌, List, ◌∷◌, ◌++◌, fold, map, replicate}
 use Rattle.commands.specs.declared.types.Command.{Command}
 use Rattle.commands.specs.Levels.{applied}
 use Rattle.commands.specs.Bytes.{encode, bytes4}
 use Rattle.sha256.specs.Sha256.{sha256}
 use Rattle.history.specs.declared.Record.{Record}
-
--- one thing done: a command delivered, or a view entered
-pub data Event : Type 0 where
-  Delivered : Command → Event
-  Entered : (view : ℕ) → Event
+use Rattle.history.specs.declared.Event.{Event}
+use Rattle.history.specs.declared.Event.TheVariants.{Delivered, Entered}
 
 -- the levels after one event more
 abbrev pub levels_after : List ℕ → Event → List ℕ
@@ -30,13 +27,15 @@ abbrev pub record_after : Record → Event → Record
 record_after r e = record { count = (r.count + 1) % 2 ^ 64; digest = digest_after r.digest e }
 
 -- events one after another, from some levels or some record on
-unfoldable pub levels_from : List ℕ → List Event → List ℕ
-levels_from ls [] = ls
-levels_from ls (e ∷ es) = levels_from (levels_after ls e) es
+abbrev pub levels_from : List ℕ → List Event → List ℕ
+levels_from ls es = fold levels_after ls es
 
-unfoldable pub record_from : Record → List Event → Record
-record_from r [] = r
-record_from r (e ∷ es) = record_from (record_after r e) es
+abbrev pub record_from : Record → List Event → Record
+record_from r es = fold record_after r es
+
+-- commands delivered one after another
+abbrev pub deliveries : List Command → List Event
+deliveries cs = map Delivered cs
 
 -- before anything was done: 512 levels of 0, a count of 0, a digest of 32 zeros
 unfoldable pub first_levels : List ℕ

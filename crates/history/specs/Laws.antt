@@ -1,7 +1,8 @@
 -- The laws of histories.
 use Rattle.std.specs.Prelude.{◌≡◌, ℕ, ◌%◌, ◌^◌, List, [], ◌∷◌, ◌++◌, length}
 use Rattle.history.specs.declared.Record.{Record}
-use Rattle.history.specs.History.{Event, levels_after, record_after, levels_from, record_from, levels_of, record_of}
+use Rattle.history.specs.declared.Event.{Event}
+use Rattle.history.specs.History.{levels_after, record_after, levels_from, record_from, levels_of, record_of}
 
 -- a history in two parts: the second goes on from what the first made
 pub record InTwoParts : Type 0 where

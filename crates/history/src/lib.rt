@@ -3,10 +3,11 @@
 
 pub mod laws;
 
-ghost use Rattle.std.specs.Prelude.{◌≡◌, ◌≤◌, List, [], ◌∷◌, ◌++◌, length, take};
+ghost use Rattle.std.specs.Prelude.{◌≡◌, List, [], ◌∷◌, ◌++◌};
 ghost use Rattle.commands.specs.Levels.{applied};
-ghost use Rattle.history.specs.History.{Event, Delivered, Entered, event_bytes, digest_after, record_after, levels_of, record_of};
+ghost use Rattle.history.specs.History.{event_bytes, record_after, levels_from, record_from, levels_of, record_of, deliveries};
 
+use arrayvec::ArrayVec;
 use commands::types::Command;
 use sha256::digest;
 
@@ -17,47 +18,42 @@ pub struct Record {
     pub digest: [u8; 32],
 }
 
-// The last digest and the event's bytes, to the front of `out`; how many they are. 114 places are enough for the longest command.
-fn put_delivery(out: &mut [u8], last: &[u8; 32], command: &Command) -> usize
-    requires { length out.old ≡ 114 }
-    ensures bound { result ≤ 114 }
-    ensures front { take result out.new ≡ last.now ++ event_bytes (Delivered command.now) }
-{
-    out[0..32].copy_from_slice(last);
-    out[32] = 1;
-    match command.write(&mut out[33..114]) {
-        Some(size) => 33 + size,
-        None => unreachable(),
+// One thing done.
+#[derive(Clone, Copy)]
+pub enum Event {
+    // a command delivered
+    Delivered(Command),
+    // a view entered
+    Entered(u32),
+}
+
+impl Event {
+    // The bytes of which the next digest is made: the last digest, then the event's. The longest command needs 114 places.
+    #[tactic(auto, using(std::proofs::lemmas::Grind::common_steps, crate::proofs::Written::written))]
+    fn message(&self, last: &[u8; 32]) -> ArrayVec<u8, 114>
+        ensures { result.items ≡ last.now ++ event_bytes self.now }
+    {
+        let mut bytes = ArrayVec::new();
+        bytes.try_extend_from_slice(last).unwrap();
+        match self {
+            Event::Delivered(command) => {
+                let mut places = [0; 81];
+                let size = command.write(&mut places).unwrap();
+                bytes.push(1);
+                bytes.try_extend_from_slice(&places[..size]).unwrap();
+            }
+            Event::Entered(view) => {
+                bytes.push(2);
+                bytes.try_extend_from_slice(&view.to_be_bytes()).unwrap();
+            }
+        }
+        bytes
     }
-}
-
-fn delivery_digest(last: &[u8; 32], command: &Command) -> [u8; 32]
-    ensures { result ≡ digest_after last.now (Delivered command.now) }
-{
-    let mut out = [0; 114];
-    let size = put_delivery(&mut out, last, command);
-    digest(&out[0..size])
-}
-
-fn put_entry(out: &mut [u8], last: &[u8; 32], view: u32)
-    requires { length out.old ≡ 37 }
-    ensures { out.new ≡ last.now ++ event_bytes (Entered view) }
-{
-    out[0..32].copy_from_slice(last);
-    out[32] = 2;
-    out[33..37].copy_from_slice(&view.to_be_bytes());
-}
-
-fn entry_digest(last: &[u8; 32], view: u32) -> [u8; 32]
-    ensures { result ≡ digest_after last.now (Entered view) }
-{
-    let mut out = [0; 37];
-    put_entry(&mut out, last, view);
-    digest(&out)
 }
 
 impl Record {
     // Before anything was done.
+    #[tactic(auto, unfolding(crate::specs::History::first_record))]
     pub fn new() -> Record
         ensures { result ≡ record_of [] }
     {
@@ -67,27 +63,44 @@ impl Record {
         }
     }
 
-    // One command more, done to the levels too. The count has 64 bits and wraps on purpose.
-    pub fn deliver(self, levels: &mut [u16], command: &Command) -> Record
-        ensures value { result ≡ record_after self (Delivered command.now) }
-        ensures after { levels.new ≡ applied command.now.action levels.old }
-        ensures history { (es : List Event) → self ≡ record_of es → levels.old ≡ levels_of es → (result ≡ record_of (es ++ (Delivered command.now ∷ []))) × (levels.new ≡ levels_of (es ++ (Delivered command.now ∷ []))) }
+    // One event more. The count has 64 bits and wraps on purpose.
+    fn after(self, event: &Event) -> Record
+        ensures { result ≡ record_after self event.now }
     {
-        command.apply(levels);
         Record {
             count: self.count.wrapping_add(1),
-            digest: delivery_digest(&self.digest, command),
+            digest: digest(event.message(&self.digest).as_slice()),
         }
+    }
+
+    // One command more, done to the levels too.
+    pub fn deliver(self, levels: &mut [u16], command: &Command) -> Record
+        ensures value { result ≡ record_after self (Event.Delivered command.now) }
+        ensures after { levels.new ≡ applied command.now.action levels.old }
+        ensures history { (es : List Event) → self ≡ record_of es → levels.old ≡ levels_of es → (result ≡ record_of (es ++ (Event.Delivered command.now ∷ []))) × (levels.new ≡ levels_of (es ++ (Event.Delivered command.now ∷ []))) }
+    {
+        command.apply(levels);
+        self.after(&Event::Delivered(*command))
+    }
+
+    // Commands delivered one after another.
+    pub fn deliver_all(self, levels: &mut [u16], commands: &[Command]) -> Record
+        ensures value { result ≡ record_from self (deliveries commands.now) }
+        ensures after { levels.new ≡ levels_from levels.old (deliveries commands.now) }
+        ensures history { (es : List Event) → self ≡ record_of es → levels.old ≡ levels_of es → (result ≡ record_of (es ++ deliveries commands.now)) × (levels.new ≡ levels_of (es ++ deliveries commands.now)) }
+    {
+        let mut record = self;
+        for command in commands {
+            record = record.deliver(levels, command);
+        }
+        record
     }
 
     // One view more: the levels stay as they are.
     pub fn enter(self, view: u32) -> Record
-        ensures value { result ≡ record_after self (Entered view) }
-        ensures history { (es : List Event) → self ≡ record_of es → (result ≡ record_of (es ++ (Entered view ∷ []))) × (levels_of (es ++ (Entered view ∷ [])) ≡ levels_of es) }
+        ensures value { result ≡ record_after self (Event.Entered view) }
+        ensures history { (es : List Event) → self ≡ record_of es → (result ≡ record_of (es ++ (Event.Entered view ∷ []))) × (levels_of (es ++ (Event.Entered view ∷ [])) ≡ levels_of es) }
     {
-        Record {
-            count: self.count.wrapping_add(1),
-            digest: entry_digest(&self.digest, view),
-        }
+        self.after(&Event::Entered(view))
     }
 }

@@ -1,13 +1,15 @@
 // One member alone on the stage: it issues commands, which wait until it settles, and delivers them through its history.
 #![tactic(auto)]
 
-ghost use Rattle.std.specs.Prelude.{◌≡◌, true, false, [], IfOk};
-ghost use Rattle.history.specs.History.{levels_from, record_from};
-ghost use Rattle.stage.specs.Stage.{error_number, deliveries, Stands, Issued, Settled, level_of};
+ghost use Rattle.std.specs.Prelude.{◌≡◌, None, []};
+ghost use Rattle.std.specs.Allocator.{alloc_error};
+ghost use Rattle.stage.specs.declared.IssueError.TheVariants.{Refused, Memory};
+ghost use Rattle.stage.specs.Stage.{number_of, Stands, is_inside, entered, Issued, Settled, level_of};
 
-use commands::types::{Action, Command, MemberId, Refusal};
+use commands::types::{Action, Channel, Command, MemberId, Refusal};
 use history::Record;
-use std::alloc::{AllocError, Global};
+use std::alloc::{AllocError, AllocFailed, Global};
+use thiserror::Error;
 
 // How many commands a member may issue in one view.
 const MOST: u32 = 1024;
@@ -15,90 +17,93 @@ const MOST: u32 = 1024;
 #[derive(Drop)]
 pub struct Stage {
     member: MemberId,
-    // it is in view 0, or in none
-    inside: bool,
-    issued: u32,
+    // how many commands it has issued in view 0; None: it is in no view
+    issued: Option<u32>,
     waiting: Vec<Command>,
-    levels: Vec<u16>,
+    levels: [u16; 512],
     done: Record,
 }
 
-// Why a command is not issued.
-#[derive(Clone, Copy)]
-pub enum IssueError {
-    // the member is in no view
+// Why a member may not issue a command.
+#[derive(Clone, Copy, Debug, Error)]
+pub enum NotIssued {
+    #[error("the member is in no view")]
     Outside,
-    // it has issued all that it may in this view
+    #[error("the member has issued all that it may in this view")]
     Limit,
-    NoMemory,
 }
 
-impl IssueError {
-    // Its number in the table of refusals, if it has one.
-    pub fn number(self) -> Option<u8>
-        ensures { result ≡ error_number self }
+impl NotIssued {
+    // Its number in the table of refusals.
+    pub fn number(self) -> u8
+        ensures { result ≡ number_of self }
     {
         match self {
-            IssueError::Outside => Some(3),
-            IssueError::Limit => Some(8),
-            IssueError::NoMemory => None,
+            NotIssued::Outside => 3,
+            NotIssued::Limit => 8,
         }
     }
 }
 
-// Commands delivered one after another.
-fn deliver_all(done: Record, levels: &mut [u16], commands: &[Command]) -> Record
-    ensures value { result ≡ record_from done (deliveries commands.now) }
-    ensures after { levels.new ≡ levels_from levels.old (deliveries commands.now) }
-{
-    let mut all = done;
-    for command in commands {
-        all = all.deliver(levels, command);
+// Why a command is not issued.
+#[derive(Clone, Copy, Debug, Error)]
+pub enum IssueError {
+    #[error(transparent)]
+    Refused(NotIssued),
+    #[error(transparent)]
+    Memory(AllocError),
+}
+
+impl From<NotIssued> for IssueError {
+    ghost from_gives = { λ refusal r. r ≡ Refused refusal };
+
+    fn from(refusal: NotIssued) -> IssueError {
+        IssueError::Refused(refusal)
     }
-    all
+}
+
+impl<T: Drop> From<AllocFailed<T>> for IssueError {
+    ghost from_gives = { λ _ r. r ≡ Memory alloc_error };
+
+    fn from(e: AllocFailed<T>) -> IssueError {
+        IssueError::Memory(e.into())
+    }
 }
 
 impl Stage {
     // A member in no view, with nothing done.
-    pub fn new(heap: Global, member: MemberId) -> Result<Stage, AllocError>
-        ensures { IfOk result (λ s. Stands s [] × (s.member ≡ member) × (s.inside ≡ false) × (s.issued ≡ 0) × (s.waiting.items ≡ [])) }
+    #[tactic(auto, unfolding(history::specs::History::first_levels))]
+    pub fn new(heap: Global, member: MemberId) -> Stage
+        ensures { Stands result [] × (result.member ≡ member) × (result.issued ≡ None) × (result.waiting.items ≡ []) }
     {
-        let levels = vec![in heap; 0; 512]?;
-        Ok(Stage {
+        Stage {
             member,
-            inside: false,
-            issued: 0,
+            issued: None,
             waiting: Vec::new(heap),
-            levels,
+            levels: [0; 512],
             done: Record::new(),
-        })
+        }
     }
 
     // View 0 is given, with the member in it.
     pub fn enter(&mut self)
-        ensures { self.new ≡ record { member = self.old.member; inside = true; issued = self.old.issued; waiting = self.old.waiting; levels = self.old.levels; done = self.old.done } }
+        ensures { self.new ≡ entered self.old }
     {
-        self.inside = true;
+        self.issued = Some(self.issued.unwrap_or(0));
     }
 
     // One command more, which waits; or a refusal, which leaves all as it was.
     pub fn issue(&mut self, action: Action) -> Result<(), IssueError>
         ensures { Issued self.old self.new action result }
     {
-        if !self.inside {
-            return Err(IssueError::Outside);
+        let issued = self.issued.ok_or(NotIssued::Outside)?;
+        if issued >= MOST {
+            return Err(NotIssued::Limit.into());
         }
-        if self.issued >= MOST {
-            return Err(IssueError::Limit);
-        }
-        let next = self.issued + 1;
-        let Ok(command) = Command::new(0, self.member, next, next, action) else {
-            return unreachable();
-        };
-        let Ok(()) = self.waiting.push(command) else {
-            return Err(IssueError::NoMemory);
-        };
-        self.issued = next;
+        let next = issued + 1;
+        let command = Command::new(0, self.member, next, next, action).unwrap();
+        self.waiting.push(command)?;
+        self.issued = Some(next);
         Ok(())
     }
 
@@ -107,15 +112,15 @@ impl Stage {
         ensures { Settled self.old self.new result }
     {
         let rounds = if self.waiting.is_empty() { 0 } else { 1 };
-        self.done = deliver_all(self.done, &mut self.levels, &self.waiting);
+        self.done = self.done.deliver_all(&mut self.levels, &self.waiting);
         self.waiting.clear();
         rounds
     }
 
     pub fn is_inside(&self) -> bool
-        ensures { result ≡ self.now.inside }
+        ensures { result ≡ is_inside self.now }
     {
-        self.inside
+        self.issued.is_some()
     }
 
     pub fn done(&self) -> Record
@@ -124,17 +129,17 @@ impl Stage {
         self.done
     }
 
+    // The level of each channel.
+    pub fn levels(&self) -> &[u16; 512]
+        ensures { result.now ≡ self.now.levels }
+    {
+        &self.levels
+    }
+
     pub fn level(&self, channel: u64) -> Result<u16, Refusal>
         ensures { result ≡ level_of self.now channel }
     {
-        if channel > 511 {
-            return Err(Refusal::Channel(channel));
-        }
-        let at = channel as usize;
-        Ok(if at < self.levels.len() {
-            self.levels[at]
-        } else {
-            0
-        })
+        let channel = Channel::try_from(channel)?;
+        Ok(self.levels[usize::from(channel.index())])
     }
 }
