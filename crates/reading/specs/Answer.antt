@@ -17,6 +17,6 @@ pub data Answer (A : Type 0) : Type 0 where
 
 infixr 20 ◌then◌
 -- what follows, where the first could be read
-unfoldable pub ◌then◌ : {A B : Type 0} → Answer A → (A → Answer B) → Answer B
+abbrev pub ◌then◌ : {A B : Type 0} → Answer A → (A → Answer B) → Answer B
 reads a then f = f a
 cannot w then f = cannot w

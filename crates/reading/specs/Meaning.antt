@@ -23,12 +23,12 @@ why_of (NoHexadecimal w) = no_hexadecimal w.now
 abbrev pub hex_error : Bor (List ℕ) → HexError → ReadError
 hex_error w Odd = Unreadable OddHexadecimal
 hex_error w NoDigit = Unreadable (NoHexadecimal w)
-hex_error w hex.Memory = Memory
+hex_error w (hex.Memory e) = Memory e
 
 -- the refusal `e` is the answer `a`; want of memory says nothing of the line
 unfoldable pub Refuses : {A : Type 0} → Answer A → ReadError → Type 0
 Refuses a (Unreadable e) = a ≡ cannot (why_of e)
-Refuses a Memory = Unit {0}
+Refuses a (Memory e) = Unit {0}
 
 -- `r` is the answer `a`, where its value means what `m` says
 abbrev pub Tells : {R A : Type 0} → (R → A) → Answer A → Result R ReadError → Type 0

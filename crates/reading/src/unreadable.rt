@@ -1,14 +1,16 @@
 // Why a line cannot be read.
-ghost use Rattle.std.specs.Prelude.{◌≡◌, ◌++◌, is_ok, if◌then◌else◌};
-ghost use Rattle.std.specs.Option.{option_map};
-ghost use Rattle.reading.specs.Shown.{Appended, shown, printable, in_quotes, what_of, word_of, text_of};
+ghost use Rattle.std.specs.Prelude.{◌≡◌, Some};
+ghost use Rattle.std.specs.Allocator.{alloc_error};
+ghost use Rattle.reading.specs.Shown.{shown, printable, text_of};
 ghost use Rattle.reading.specs.Meaning.{why_of};
-ghost use Rattle.reading.specs.declared.unreadable.ReadError.TheVariants.{Memory};
+ghost use Rattle.reading.specs.declared.unreadable.ReadError.TheVariants.{Unreadable, Memory};
 
 use std::alloc::{AllocError, AllocFailed};
+use std::fmt;
+use thiserror::Error;
 
 // The word is the one that stood there.
-#[derive(Clone, Copy)]
+#[derive(Clone, Copy, Debug)]
 pub enum Reason<'a> {
     UnknownWord(&'a [u8]),
     MissingWord,
@@ -19,103 +21,77 @@ pub enum Reason<'a> {
     NoHexadecimal(&'a [u8]),
 }
 
+impl<'a> fmt::Display for Reason<'a> {
+    ghost output = { λ r. Some (text_of (why_of r)) };
+
+    #[tactic(auto, unfolding(crate::specs::Shown::text_of, crate::specs::Shown::in_quotes))]
+    fn fmt<W: fmt::Write>(&self, f: &mut fmt::Formatter<W>) -> fmt::Result {
+        match *self {
+            Reason::UnknownWord(word) => write!(f, "unknown word '{}'", Printable(word)),
+            Reason::MissingWord => write!(f, "missing word"),
+            Reason::NoNumber(word) => write!(f, "no number '{}'", Printable(word)),
+            Reason::MissingNumber => write!(f, "missing number"),
+            Reason::TooManyWords => write!(f, "too many words"),
+            Reason::OddHexadecimal => write!(f, "odd hexadecimal"),
+            Reason::NoHexadecimal(word) => write!(f, "no hexadecimal '{}'", Printable(word)),
+        }
+    }
+}
+
+// A word with `?` in place of each byte that does not print.
 #[derive(Clone, Copy)]
+struct Printable<'a>(&'a [u8]);
+
+impl<'a> fmt::Display for Printable<'a> {
+    ghost output = { λ w. Some (printable w.0.now) };
+
+    #[tactic(auto, unfolding(crate::specs::Shown::printable))]
+    fn fmt<W: fmt::Write>(&self, f: &mut fmt::Formatter<W>) -> fmt::Result {
+        for b in self.0 {
+            f.write_char(shown(*b))?;
+        }
+        Ok(())
+    }
+}
+
+fn shown(b: u8) -> char
+    ensures { result ≡ shown b }
+{
+    match b {
+        b' '..=b'~' => char::from(b),
+        _ => '?',
+    }
+}
+
+// Why a line was not read.
+#[derive(Clone, Copy, Debug, Error)]
 pub enum ReadError<'a> {
+    #[error("{0}")]
     Unreadable(Reason<'a>),
-    Memory,
+    #[error(transparent)]
+    Memory(AllocError),
+}
+
+impl<'a> From<Reason<'a>> for ReadError<'a> {
+    ghost from_gives = { λ reason r. r ≡ Unreadable reason };
+
+    fn from(reason: Reason<'a>) -> ReadError<'a> {
+        ReadError::Unreadable(reason)
+    }
 }
 
 impl<'a> From<AllocError> for ReadError<'a> {
-    ghost from_gives = { λ _ r. r ≡ Memory };
+    ghost from_gives = { λ e r. r ≡ Memory e };
 
-    fn from(_e: AllocError) -> ReadError<'a> {
-        ReadError::Memory
+    fn from(e: AllocError) -> ReadError<'a> {
+        ReadError::Memory(e)
     }
 }
 
 impl<'a, T: Drop> From<AllocFailed<T>> for ReadError<'a> {
-    ghost from_gives = { λ _ r. r ≡ Memory };
+    ghost from_gives = { λ _ r. r ≡ Memory alloc_error };
 
-    fn from(_e: AllocFailed<T>) -> ReadError<'a> {
-        ReadError::Memory
+    fn from(e: AllocFailed<T>) -> ReadError<'a> {
+        ReadError::Memory(e.into())
     }
-}
-
-impl<'a> Reason<'a> {
-    // Appends the reason as plain text. Where memory fails, `out` is as it was.
-    pub fn write(self, out: &mut Vec<u8>) -> Result<(), AllocError>
-        ensures { out.new.items ≡ (if is_ok result then out.old.items ++ text_of (why_of self.entry) else out.old.items) }
-    {
-        let before = out.len();
-        let done = append(self, out);
-        if done.is_err() {
-            out.truncate(before);
-        }
-        done
-    }
-
-    fn what(self) -> &'static [u8]
-        ensures { result.now ≡ what_of (why_of self.entry) }
-    {
-        match self {
-            Reason::UnknownWord(_) => b"unknown word",
-            Reason::MissingWord => b"missing word",
-            Reason::NoNumber(_) => b"no number",
-            Reason::MissingNumber => b"missing number",
-            Reason::TooManyWords => b"too many words",
-            Reason::OddHexadecimal => b"odd hexadecimal",
-            Reason::NoHexadecimal(_) => b"no hexadecimal",
-        }
-    }
-
-    // The word that stood there.
-    fn word(self) -> Option<&'a [u8]>
-        ensures { option_map (λ w. w.now) result ≡ word_of (why_of self.entry) }
-    {
-        match self {
-            Reason::UnknownWord(word) => Some(word),
-            Reason::NoNumber(word) => Some(word),
-            Reason::NoHexadecimal(word) => Some(word),
-            Reason::MissingWord => None,
-            Reason::MissingNumber => None,
-            Reason::TooManyWords => None,
-            Reason::OddHexadecimal => None,
-        }
-    }
-}
-
-// The same as `write`, but for what it leaves where memory fails: some of the text may stand behind what `out` held.
-fn append(reason: Reason<'_>, out: &mut Vec<u8>) -> Result<(), AllocError>
-    ensures { Appended out.old.items (text_of (why_of reason.entry)) result out.new.items }
-{
-    out.extend_from_slice(reason.what())?;
-    match reason.word() {
-        Some(word) => quoted(out, word),
-        None => Ok(()),
-    }
-}
-
-// A blank, and the word in quotes.
-fn quoted(out: &mut Vec<u8>, word: &[u8]) -> Result<(), AllocError>
-    ensures { Appended out.old.items (in_quotes word.now) result out.new.items }
-{
-    out.extend_from_slice(b" '")?;
-    push_printable(out, word)?;
-    out.extend_from_slice(b"'")
-}
-
-// Each byte, or `?` in place of one that does not print.
-fn push_printable(out: &mut Vec<u8>, word: &[u8]) -> Result<(), AllocError>
-    ensures { Appended out.old.items (printable word.now) result out.new.items }
-{
-    for b in word {
-        out.push(shown_byte(*b))?;
-    }
-    Ok(())
-}
-
-fn shown_byte(b: u8) -> u8
-    ensures { result ≡ shown b }
-{
-    if b >= 32 && b <= 126 { b } else { b'?' }
 }

@@ -6,19 +6,19 @@ use Rattle.requests.specs.Values.{if_named, a_number, a_step, the_end, numbers_s
 use Rattle.requests.specs.Said.{ActionSaid, set, move, scene, DeskSaid, call, book, done, Said, blank, desks, circle, of_desk, settle, show, digest}
 
 -- `C L` behind `call set`
-unfoldable pub set_said : List (List ℕ) → Answer ActionSaid
+abbrev pub set_said : List (List ℕ) → Answer ActionSaid
 set_said ws = a_number ws then (λ c. a_number c.1 then (λ l. the_end l.1 then (λ _. reads (set c.0 l.0))))
 
 -- `C S` behind `call move`
-unfoldable pub move_said : List (List ℕ) → Answer ActionSaid
+abbrev pub move_said : List (List ℕ) → Answer ActionSaid
 move_said ws = a_number ws then (λ c. a_step c.1 then (λ s. the_end s.1 then (λ _. reads (move c.0 s.0))))
 
 -- `C L..` behind `call scene`
-unfoldable pub scene_said : List (List ℕ) → Answer ActionSaid
+abbrev pub scene_said : List (List ℕ) → Answer ActionSaid
 scene_said ws = a_number ws then (λ c. numbers_said c.1 then (λ ls. reads (scene c.0 ls)))
 
 -- what stands behind `call`
-unfoldable pub action_said : List (List ℕ) → Answer ActionSaid
+abbrev pub action_said : List (List ℕ) → Answer ActionSaid
 action_said [] = cannot missing_word
 action_said (w ∷ ws) =
     if_named w (codes "set") (set_said ws)
@@ -27,11 +27,11 @@ action_said (w ∷ ws) =
     (cannot (unknown_word w))))
 
 -- `C` behind `book`
-unfoldable pub book_said : List (List ℕ) → Answer DeskSaid
+abbrev pub book_said : List (List ℕ) → Answer DeskSaid
 book_said ws = a_number ws then (λ c. the_end c.1 then (λ _. reads (book c.0)))
 
 -- what one desk is asked
-unfoldable pub desk_said : List (List ℕ) → Answer DeskSaid
+abbrev pub desk_said : List (List ℕ) → Answer DeskSaid
 desk_said [] = cannot missing_word
 desk_said (w ∷ ws) =
     if_named w (codes "call") (action_said ws then (λ a. reads (call a)))
@@ -45,7 +45,7 @@ desk_line w None ws = cannot (unknown_word w)
 desk_line w (Some d) ws = desk_said ws then (λ q. reads (of_desk d q))
 
 -- what a line says by its first word and the words behind it
-unfoldable pub word_said : List ℕ → List (List ℕ) → Answer Said
+abbrev pub word_said : List ℕ → List (List ℕ) → Answer Said
 word_said w ws =
     if_named w (codes "desks") (numbers_said ws then (λ ds. reads (desks ds)))
     (if_named w (codes "circle") (numbers_said ws then (λ ds. reads (circle ds)))
@@ -55,6 +55,6 @@ word_said w ws =
     (desk_line w (number_of w) ws)))))
 
 -- what a line says by its words
-unfoldable pub said : List (List ℕ) → Answer Said
+abbrev pub said : List (List ℕ) → Answer Said
 said [] = reads blank
 said (w ∷ ws) = word_said w ws

@@ -1,4 +1,5 @@
 pub mod Grammar
 pub mod Meaning
+pub mod Reader
 pub mod Said
 pub mod Values
