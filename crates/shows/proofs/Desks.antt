@@ -1,12 +1,12 @@
 -- The desks of a line, one after another.
-use Rattle.std.proofs.Common.{◌≡◌, ℕ, ◌+◌, ◌<◌, ◌≤◌, false, cond, eqb, List, [], ◌∷◌, length, get_or, drop, is_some, Some, None, Option, Result, sym, refl, ◌∙◌, subst, arith}
+use Rattle.std.proofs.Common.{◌≡◌, ℕ, ◌+◌, ◌<◌, ◌≤◌, false, cond, eqb, List, [], ◌∷◌, length, get_or, drop, is_some, Some, None, Ok, Option, Result, sym, refl, ◌∙◌, subst, arith}
 use Rattle.std.proofs.lemmas.List.{at_drop_more, at_drop_all}
-use Rattle.std.proofs.lemmas.Bool.{eq-eqb, ne_eqb, cond-true, cond-false}
-use Rattle.std.specs.declared.alloc.AllocError.{AllocError}
+use Rattle.std.proofs.lemmas.Bool.{eq-eqb, ne_eqb, le-leb, cond-true, cond-false}
+use Rattle.shows.specs.declared.answers.PlayError.{PlayError}
 use Rattle.requests.specs.declared.asked.Request.{Request}
 use Rattle.shows.specs.declared.answers.Answer.{Answer}
 use Rattle.shows.specs.declared.show.Show.{Show}
-use Rattle.shows.specs.Shows.{first_other, Carried}
+use Rattle.shows.specs.Shows.{first_other, desk_or, Carried}
 
 module _ (desk : ℕ) (ds : List ℕ) (k : ℕ) (left : first_other desk (drop k ds) ≡ first_other desk ds) where
   step : k < length ds → cond (eqb (get_or ds k 0) desk) (first_other desk (drop (k + 1) ds)) (Some (get_or ds k 0)) ≡ first_other desk ds
@@ -32,5 +32,9 @@ is_none None h = refl
 is_none (Some x) h = let z : ◌≡◌ {A = ℕ} 0 1 = cc in absurd (omega arith)
 
 -- what is carried out is so for the show and the line that are there
-pub carried : (t : Option Show) (r : Result Answer AllocError) {s : Option Show} {x : Show} {p q : Request} → s ≡ Some x → p ≡ q → Carried (Some x) t q r → Carried s t p r
+pub carried : (t : Option Show) (r : Result Answer PlayError) {s : Option Show} {x : Show} {p q : Request} → s ≡ Some x → p ≡ q → Carried (Some x) t q r → Carried s t p r
 carried t r {s} {x} {p} {q} e f h = subst (λ o. Carried o t p r) (sym e) (subst (λ o. Carried (Some x) t o r) (sym f) h)
+
+-- one desk that may play, where there was none
+pub given : (s : Option Show) (ds : List ℕ) (d : ℕ) → s ≡ None → ds ≡ d ∷ [] → d ≤ 63 → desk_or s ds ≡ Ok d
+given s ds d e f h = rw (e, f) (cond-true _ _ _ (le-leb d 63 h))

@@ -1,3 +1,2 @@
-pub mod Chains
-pub mod Desks
-pub mod Lines
+mod Desks
+mod Lines

@@ -1,12 +1,18 @@
 -- The text of answers.
-use Rattle.std.specs.Prelude.{ℕ, zero, suc, Bool, true, false, cond, List, [], ◌++◌, vec_items, codes, decimal, ◌==◌, slice_index}
+use Rattle.std.specs.Prelude.{ℕ, zero, suc, Bool, true, false, cond, List, [], ◌++◌, string_bytes, codes, decimal, ◌==◌, slice_index}
+use Rattle.commands.specs.Values.{row}
 use Rattle.hexadecimal.specs.Hex.{hex_of}
+use Rattle.reading.specs.Meaning.{why_of}
+use Rattle.reading.specs.Shown.{text_of}
+use Rattle.stage.specs.Stage.{is_inside, number_of}
 use Rattle.history.specs.declared.Record.{Record}
 use Rattle.shows.specs.declared.show.Show.{Show}
 use Rattle.shows.specs.declared.answers.Why.{Why}
 use Rattle.shows.specs.declared.answers.Why.TheVariants.{DesksAreGiven, NoDesksYet, OneDeskOnly, NoSuchDesk, NoDeskInCircle, TwiceInCircle, OneCircleOnly}
+use Rattle.shows.specs.declared.answers.Refused.{Refused}
+use Rattle.shows.specs.declared.answers.Refused.TheVariants.{TooLong, Unreadable, Value, Issue, NotInShow, Cannot}
 use Rattle.shows.specs.declared.answers.Answer.{Answer}
-use Rattle.shows.specs.declared.answers.Answer.TheVariants.{Nothing, Level, Done, Digest, Settled, TurnedAway, NotInShow, Cannot}
+use Rattle.shows.specs.declared.answers.Answer.TheVariants.{Nothing, Level, Done, Digest, Settled, Desks}
 
 abbrev pub why_text : Why → List ℕ
 why_text DesksAreGiven = codes "the desks are given already"
@@ -21,20 +27,31 @@ why_text OneCircleOnly = codes "only circle 0 can be told yet"
 abbrev pub around : List ℕ → ℕ → List ℕ → List ℕ
 around before n after = before ++ (decimal n ++ after)
 
--- what begins the answer to a line that could not be carried out
-abbrev pub line_text : ℕ → List ℕ
-line_text n = around (codes "line ") n (codes ": ")
+-- what is said of a refusal by its number in the table of refusals
+abbrev pub turned_away : ℕ → List ℕ
+turned_away k = around (codes "turned away ") k []
 
--- what is printed for line n
-abbrev pub answer_text : ℕ → Answer → List ℕ
-answer_text n Nothing = []
-answer_text n (Level l) = around [] l (codes "\n")
-answer_text n (Done r) = around [] r.count (codes " ") ++ (hex_of r.digest ++ codes "\n")
-answer_text n (Digest d) = hex_of d ++ codes "\n"
-answer_text n (Settled k) = around (codes "settled in ") k (codes " rounds\n")
-answer_text n (TurnedAway k) = line_text n ++ around (codes "turned away ") k (codes "\n")
-answer_text n (NotInShow d) = line_text n ++ around (codes "desk ") d (codes " is not in this show\n")
-answer_text n (Cannot w) = line_text n ++ (codes "? " ++ (why_text w ++ codes "\n"))
+-- what is said of a refusal
+abbrev pub refused_text : Refused → List ℕ
+refused_text TooLong = codes "? line too long"
+refused_text (Unreadable r) = codes "? " ++ text_of (why_of r)
+refused_text (Value e) = turned_away (row e).0
+refused_text (Issue e) = turned_away (number_of e)
+refused_text (NotInShow d) = around (codes "desk ") d (codes " is not in this show")
+refused_text (Cannot w) = codes "? " ++ why_text w
+
+-- what is printed for line n where it is refused
+abbrev pub refusal_text : ℕ → Refused → List ℕ
+refusal_text n r = around (codes "line ") n (codes ": " ++ (refused_text r ++ codes "\n"))
+
+-- what is printed of an answer
+abbrev pub answer_text : Answer → List ℕ
+answer_text Nothing = []
+answer_text (Level l) = around [] l (codes "\n")
+answer_text (Done r) = around [] r.count (codes " ") ++ (hex_of r.digest ++ codes "\n")
+answer_text (Digest d) = hex_of d ++ codes "\n"
+answer_text (Settled k) = around (codes "settled in ") k (codes " rounds\n")
+answer_text (Desks lines) = string_bytes lines
 
 -- ` C=L` for a level that isn't 0
 abbrev pub level_text : ℕ → ℕ → List ℕ
@@ -60,4 +77,4 @@ book_text ls = codes ", levels" ++ levels_text 512 ls ++ codes "\n"
 
 -- a desk's line
 unfoldable pub show_text : Show → List ℕ
-show_text s = around (codes "desk ") s.desk (codes ": ") ++ place_text s.stage.inside ++ record_text s.stage.done ++ book_text (vec_items s.stage.levels)
+show_text s = around (codes "desk ") s.desk (codes ": ") ++ place_text (is_inside s.stage) ++ record_text s.stage.done ++ book_text s.stage.levels

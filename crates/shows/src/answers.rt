@@ -1,12 +1,17 @@
-// What is answered to a line of a show, and its text.
-ghost use Rattle.std.specs.Prelude.{◌≡◌, ◌++◌, codes, OnOk};
-ghost use Rattle.hexadecimal.specs.Hex.{hex_of};
-ghost use Rattle.shows.specs.Texts.{why_text, around, line_text, answer_text};
+// What a line of a show comes to: an answer, or why there is none.
+ghost use Rattle.std.specs.Prelude.{◌≡◌, Some};
+ghost use Rattle.shows.specs.Failures.{issue_failure, read_failure};
+ghost use Rattle.shows.specs.Texts.{why_text, refused_text, answer_text};
+ghost use Rattle.shows.specs.declared.answers.Refused.TheVariants.{Value, Cannot};
+ghost use Rattle.shows.specs.declared.answers.PlayError.TheVariants.{Refused as IsRefused, Memory};
 
-use hexadecimal::push_hex;
+use commands::types::Refusal;
+use hexadecimal::Hex;
 use history::Record;
-use std::alloc::{AllocError, Global};
-use text::numbers::push_number;
+use reading::unreadable::{ReadError, Reason};
+use stage::{IssueError, NotIssued};
+use std::alloc::AllocError;
+use std::fmt;
 
 // Why a line that was read can't be carried out, beside the refusals of the table.
 #[derive(Clone, Copy)]
@@ -20,112 +25,134 @@ pub enum Why {
     OneCircleOnly,
 }
 
-// What a line comes to.
+impl fmt::Display for Why {
+    ghost output = { λ w. Some (why_text w) };
+
+    fn fmt<W: fmt::Write>(&self, f: &mut fmt::Formatter<W>) -> fmt::Result {
+        f.write_str(match self {
+            Why::DesksAreGiven => "the desks are given already",
+            Why::NoDesksYet => "no desks yet",
+            Why::OneDeskOnly => "only one desk can play yet",
+            Why::NoSuchDesk => "desks are 0 to 63",
+            Why::NoDeskInCircle => "a circle has at least one desk",
+            Why::TwiceInCircle => "a desk stands twice in the circle",
+            Why::OneCircleOnly => "only circle 0 can be told yet",
+        })
+    }
+}
+
+// Why a line is refused, which then changes nothing.
 #[derive(Clone, Copy)]
+pub enum Refused<'a> {
+    TooLong,
+    Unreadable(Reason<'a>),
+    // a value of a call can't be
+    Value(Refusal),
+    // the desk may not call
+    Issue(NotIssued),
+    NotInShow(u64),
+    Cannot(Why),
+}
+
+impl<'a> fmt::Display for Refused<'a> {
+    ghost output = { λ r. Some (refused_text r) };
+
+    fn fmt<W: fmt::Write>(&self, f: &mut fmt::Formatter<W>) -> fmt::Result {
+        match self {
+            Refused::TooLong => write!(f, "? line too long"),
+            Refused::Unreadable(reason) => write!(f, "? {reason}"),
+            Refused::Value(refusal) => write!(f, "turned away {}", refusal.number()),
+            Refused::Issue(refusal) => write!(f, "turned away {}", refusal.number()),
+            Refused::NotInShow(desk) => write!(f, "desk {desk} is not in this show"),
+            Refused::Cannot(why) => write!(f, "? {why}"),
+        }
+    }
+}
+
+// Why a line has no answer.
+#[derive(Clone, Copy)]
+pub enum PlayError<'a> {
+    Refused(Refused<'a>),
+    Memory(AllocError),
+}
+
+impl<'a> From<Refused<'a>> for PlayError<'a> {
+    ghost from_gives = { λ r e. e ≡ IsRefused r };
+
+    fn from(refused: Refused<'a>) -> PlayError<'a> {
+        PlayError::Refused(refused)
+    }
+}
+
+impl<'a> From<Why> for PlayError<'a> {
+    ghost from_gives = { λ w e. e ≡ IsRefused (Cannot w) };
+
+    fn from(why: Why) -> PlayError<'a> {
+        PlayError::Refused(Refused::Cannot(why))
+    }
+}
+
+impl<'a> From<Refusal> for PlayError<'a> {
+    ghost from_gives = { λ r e. e ≡ IsRefused (Value r) };
+
+    fn from(refusal: Refusal) -> PlayError<'a> {
+        PlayError::Refused(Refused::Value(refusal))
+    }
+}
+
+impl<'a> From<IssueError> for PlayError<'a> {
+    ghost from_gives = { λ i e. e ≡ issue_failure i };
+
+    fn from(error: IssueError) -> PlayError<'a> {
+        match error {
+            IssueError::Refused(refusal) => PlayError::Refused(Refused::Issue(refusal)),
+            IssueError::Memory(error) => PlayError::Memory(error),
+        }
+    }
+}
+
+impl<'a> From<ReadError<'a>> for PlayError<'a> {
+    ghost from_gives = { λ r e. e ≡ read_failure r };
+
+    fn from(error: ReadError<'a>) -> PlayError<'a> {
+        match error {
+            ReadError::Unreadable(reason) => PlayError::Refused(Refused::Unreadable(reason)),
+            ReadError::Memory(error) => PlayError::Memory(error),
+        }
+    }
+}
+
+impl<'a> From<AllocError> for PlayError<'a> {
+    ghost from_gives = { λ a e. e ≡ Memory a };
+
+    fn from(error: AllocError) -> PlayError<'a> {
+        PlayError::Memory(error)
+    }
+}
+
+// What a line that is carried out gives.
+#[derive(Drop)]
 pub enum Answer {
-    // carried out, with nothing to say
     Nothing,
     Level(u16),
     Done(Record),
     Digest([u8; 32]),
     Settled(u64),
-    // refused, with its number in the table of refusals
-    TurnedAway(u8),
-    NotInShow(u64),
-    Cannot(Why),
+    // the desks' lines
+    Desks(String),
 }
 
-impl Why {
-    fn text(self) -> &'static [u8]
-        ensures { result.now ≡ why_text self }
-    {
+impl fmt::Display for Answer {
+    ghost output = { λ a. Some (answer_text a) };
+
+    fn fmt<W: fmt::Write>(&self, f: &mut fmt::Formatter<W>) -> fmt::Result {
         match self {
-            Why::DesksAreGiven => b"the desks are given already",
-            Why::NoDesksYet => b"no desks yet",
-            Why::OneDeskOnly => b"only one desk can play yet",
-            Why::NoSuchDesk => b"desks are 0 to 63",
-            Why::NoDeskInCircle => b"a circle has at least one desk",
-            Why::TwiceInCircle => b"a desk stands twice in the circle",
-            Why::OneCircleOnly => b"only circle 0 can be told yet",
+            Answer::Nothing => Ok(()),
+            Answer::Level(level) => writeln!(f, "{level}"),
+            Answer::Done(done) => writeln!(f, "{} {}", done.count, Hex(&done.digest)),
+            Answer::Digest(digest) => writeln!(f, "{}", Hex(digest)),
+            Answer::Settled(rounds) => writeln!(f, "settled in {rounds} rounds"),
+            Answer::Desks(lines) => write!(f, "{lines}"),
         }
-    }
-}
-
-// A number in decimal between two texts.
-pub(crate) fn push_around(
-    out: &mut Vec<u8>,
-    before: &[u8],
-    number: u64,
-    after: &[u8],
-    heap: Global,
-) -> Result<(), AllocError>
-    ensures { OnOk result (out.new.items ≡ out.old.items ++ around before.now number after.now) }
-{
-    out.extend_from_slice(before)?;
-    push_number(out, number, heap)?;
-    out.extend_from_slice(after)?;
-    Ok(())
-}
-
-// `line N: `, which begins what is said of a line that could not be carried out.
-pub(crate) fn push_line(out: &mut Vec<u8>, line: u64, heap: Global) -> Result<(), AllocError>
-    ensures { OnOk result (out.new.items ≡ out.old.items ++ line_text line) }
-{
-    push_around(out, b"line ", line, b": ", heap)?;
-    Ok(())
-}
-
-// A digest in hexadecimal, behind a text.
-fn push_digest(out: &mut Vec<u8>, digest: &[u8; 32]) -> Result<(), AllocError>
-    ensures { OnOk result (out.new.items ≡ out.old.items ++ (hex_of digest.now ++ codes "\n")) }
-{
-    push_hex(out, digest)?;
-    out.extend_from_slice(b"\n")?;
-    Ok(())
-}
-
-fn push_cannot(out: &mut Vec<u8>, why: Why) -> Result<(), AllocError>
-    ensures { OnOk result (out.new.items ≡ out.old.items ++ (codes "? " ++ (why_text why ++ codes "\n"))) }
-{
-    out.extend_from_slice(b"? ")?;
-    out.extend_from_slice(why.text())?;
-    out.extend_from_slice(b"\n")?;
-    Ok(())
-}
-
-impl Answer {
-    // The answer's text for line `line`, behind what `out` holds.
-    pub(crate) fn write(self, out: &mut Vec<u8>, line: u64, heap: Global) -> Result<(), AllocError>
-        ensures { OnOk result (out.new.items ≡ out.old.items ++ answer_text line self) }
-    {
-        match self {
-            Answer::Nothing => {}
-            Answer::Level(level) => push_around(out, b"", level as u64, b"\n", heap)?,
-            Answer::Done(done) => {
-                push_around(out, b"", done.count, b" ", heap)?;
-                push_digest(out, &done.digest)?;
-            }
-            Answer::Digest(digest) => push_digest(out, &digest)?,
-            Answer::Settled(rounds) => push_around(
-                out,
-                b"settled in ",
-                rounds,
-                b" rounds\n",
-                heap,
-            )?,
-            Answer::TurnedAway(number) => {
-                push_line(out, line, heap)?;
-                push_around(out, b"turned away ", number as u64, b"\n", heap)?;
-            }
-            Answer::NotInShow(desk) => {
-                push_line(out, line, heap)?;
-                push_around(out, b"desk ", desk, b" is not in this show\n", heap)?;
-            }
-            Answer::Cannot(why) => {
-                push_line(out, line, heap)?;
-                push_cannot(out, why)?;
-            }
-        }
-        Ok(())
     }
 }

@@ -1,11 +1,9 @@
 // The desks of a show, and what a line does to them.
-ghost use Rattle.std.specs.Prelude.{◌≡◌, [], ◌++◌, IfOk, if◌then◌else◌, OnOk};
-ghost use Rattle.shows.specs.Shows.{action_or, first_other, circle_answer, is_nothing, DesksGiven, entered, Called, OfDesk, SettledAs, Carried, asks_show, desk_lines, Answered, unreadable_text, Unread, Played};
-ghost use Rattle.reading.specs.Meaning.{why_of};
+ghost use Rattle.std.specs.Prelude.{◌≡◌, IfOk, is_ok, if◌then◌else◌, string_bytes};
+ghost use Rattle.shows.specs.Shows.{action_or, first_other, circle_or, DesksGiven, entered, Called, OfDesk, SettledAs, Carried, CameTo, Played};
 
-use crate::answers::{Answer, Why, push_line};
+use crate::answers::{Answer, PlayError, Refused, Why};
 use commands::types::{Action, MemberId, Refusal};
-use reading::unreadable::{ReadError, Reason};
 use requests::asked;
 use requests::lines::read;
 use sha256::digest;
@@ -20,7 +18,7 @@ pub struct Show {
     pub(crate) stage: Stage,
 }
 
-// The action that was asked for, judged by its values.
+// The action that was asked for, judged by its values. (No `TryFrom`, since both types are of other crates.)
 fn action_of(asked: &asked::Action) -> Result<Action, Refusal>
     ensures { result ≡ action_or asked.now }
 {
@@ -32,20 +30,22 @@ fn action_of(asked: &asked::Action) -> Result<Action, Refusal>
 }
 
 // One desk comes into the show, in no circle.
-fn desks(show: &mut Option<Show>, desks: &[u64], heap: Global) -> Result<Answer, AllocError>
-    ensures { IfOk result (λ a. DesksGiven show.old desks.now show.new a) }
+fn desks<'a>(show: &mut Option<Show>, desks: &[u64], heap: Global) -> Result<Answer, PlayError<'a>>
+    ensures { DesksGiven show.old desks.now show.new result }
 {
     if show.is_some() {
-        return Ok(Answer::Cannot(Why::DesksAreGiven));
+        return Err(Why::DesksAreGiven.into());
     }
     let [desk] = desks else {
-        return Ok(Answer::Cannot(Why::OneDeskOnly));
+        return Err(Why::OneDeskOnly.into());
     };
-    let Ok(member) = MemberId::new(*desk) else {
-        return Ok(Answer::Cannot(Why::NoSuchDesk));
+    let Ok(member) = MemberId::try_from(*desk) else {
+        return Err(Why::NoSuchDesk.into());
     };
-    let stage = Stage::new(heap, member)?;
-    *show = Some(Show { desk: *desk, stage });
+    *show = Some(Show {
+        desk: *desk,
+        stage: Stage::new(heap, member),
+    });
     Ok(Answer::Nothing)
 }
 
@@ -63,54 +63,46 @@ fn first_other(desk: u64, desks: &[u64]) -> Option<u64>
 
 impl Show {
     // Circle 0 is given.
-    fn circle(&mut self, desks: &[u64]) -> Answer
-        ensures value { result ≡ circle_answer self.old.stage.inside (first_other self.old.desk desks.now) desks.now }
-        ensures after { self.new ≡ (if is_nothing result then entered self.old else self.old) }
+    fn circle<'a>(&mut self, desks: &[u64]) -> Result<Answer, PlayError<'a>>
+        ensures value { result ≡ circle_or self.old desks.now }
+        ensures after { self.new ≡ (if is_ok result then entered self.old else self.old) }
     {
         if let Some(other) = first_other(self.desk, desks) {
-            return Answer::NotInShow(other);
+            return Err(Refused::NotInShow(other).into());
         }
         if self.stage.is_inside() {
-            return Answer::Cannot(Why::OneCircleOnly);
+            return Err(Why::OneCircleOnly.into());
         }
         match desks {
-            [] => Answer::Cannot(Why::NoDeskInCircle),
+            [] => Err(Why::NoDeskInCircle.into()),
             [_] => {
                 self.stage.enter();
-                Answer::Nothing
+                Ok(Answer::Nothing)
             }
-            _ => Answer::Cannot(Why::TwiceInCircle),
+            _ => Err(Why::TwiceInCircle.into()),
         }
     }
 
-    fn call(&mut self, asked: &asked::Action) -> Result<Answer, AllocError>
+    fn call<'a>(&mut self, asked: &asked::Action) -> Result<Answer, PlayError<'a>>
         ensures { Called self.old self.new (action_or asked.now) result }
     {
-        let action = match action_of(asked) {
-            Ok(action) => action,
-            Err(refusal) => return Ok(Answer::TurnedAway(refusal.number())),
-        };
-        match self.stage.issue(action) {
-            Ok(()) => Ok(Answer::Nothing),
-            Err(e) => match e.number() {
-                Some(number) => Ok(Answer::TurnedAway(number)),
-                None => Err(AllocError),
-            },
-        }
+        self.stage.issue(action_of(asked)?)?;
+        Ok(Answer::Nothing)
     }
 
-    fn of_desk(&mut self, desk: u64, request: &asked::DeskRequest) -> Result<Answer, AllocError>
+    fn of_desk<'a>(
+        &mut self,
+        desk: u64,
+        request: &asked::DeskRequest,
+    ) -> Result<Answer, PlayError<'a>>
         ensures { OfDesk self.old self.new desk request.now result }
     {
         if desk != self.desk {
-            return Ok(Answer::NotInShow(desk));
+            return Err(Refused::NotInShow(desk).into());
         }
         match request {
             asked::DeskRequest::Call(action) => self.call(action),
-            asked::DeskRequest::Book(channel) => Ok(match self.stage.level(*channel) {
-                Ok(level) => Answer::Level(level),
-                Err(refusal) => Answer::TurnedAway(refusal.number()),
-            }),
+            asked::DeskRequest::Book(channel) => Ok(Answer::Level(self.stage.level(*channel)?)),
             asked::DeskRequest::Done => Ok(Answer::Done(self.stage.done())),
         }
     }
@@ -123,12 +115,12 @@ impl Show {
     }
 }
 
-// Does what a line asks, or answers why not. A line that asks for the desks' lines is written by `answer`.
-fn carry_out(
+// Does what a line asks.
+fn carry_out<'a>(
     show: &mut Option<Show>,
     request: &asked::Request,
     heap: Global,
-) -> Result<Answer, AllocError>
+) -> Result<Answer, PlayError<'a>>
     ensures { Carried show.old show.new request.now result }
 {
     match request {
@@ -137,106 +129,49 @@ fn carry_out(
         asked::Request::Digest(bytes) => Ok(Answer::Digest(digest(bytes))),
         asked::Request::OfDesk(desk, asked) => match show {
             Some(show) => show.of_desk(*desk, asked),
-            None => Ok(Answer::NotInShow(*desk)),
+            None => Err(Refused::NotInShow(*desk).into()),
         },
         asked::Request::Circle(told) => match show {
-            Some(show) => Ok(show.circle(told)),
-            None => Ok(Answer::Cannot(Why::NoDesksYet)),
+            Some(show) => show.circle(told),
+            None => Err(Why::NoDesksYet.into()),
         },
         asked::Request::Settle => match show {
             Some(show) => Ok(show.settle()),
-            None => Ok(Answer::Cannot(Why::NoDesksYet)),
+            None => Err(Why::NoDesksYet.into()),
         },
         asked::Request::Show => match show {
-            Some(_) => Ok(Answer::Nothing),
-            None => Ok(Answer::Cannot(Why::NoDesksYet)),
+            Some(show) => Ok(Answer::Desks(show.to_string(heap)?)),
+            None => Err(Why::NoDesksYet.into()),
         },
     }
 }
 
-// The desks' lines, where the line asks for them.
-fn push_shown(
-    out: &mut Vec<u8>,
-    show: &Option<Show>,
-    request: &asked::Request,
-    heap: Global,
-) -> Result<(), AllocError>
-    ensures { OnOk result (out.new.items ≡ out.old.items ++ (if asks_show request.now then desk_lines show.now else [])) }
-{
-    if let asked::Request::Show = request {
-        if let Some(show) = show {
-            show.write(out, heap)?;
-        }
-    }
-    Ok(())
-}
-
-// Does what a line asks, and writes what is answered behind what `out` holds.
-fn answer(
+// Does what a line asks, where it can be read.
+fn come_to<'a>(
     show: &mut Option<Show>,
-    line: u64,
-    request: &asked::Request,
-    out: &mut Vec<u8>,
+    text: &'a [u8],
     heap: Global,
-) -> Result<(), AllocError>
-    ensures { OnOk result (Answered line request.now show.old show.new out.old.items out.new.items) }
+) -> Result<Answer, PlayError<'a>>
+    ensures { CameTo show.old text.now show.new result }
 {
-    let answer = carry_out(show, request, heap)?;
-    answer.write(out, line, heap)?;
-    push_shown(out, show, request, heap)?;
-    Ok(())
-}
-
-// What is said of a line that can't be read.
-fn push_reason(
-    out: &mut Vec<u8>,
-    line: u64,
-    reason: Reason<'_>,
-    heap: Global,
-) -> Result<(), AllocError>
-    ensures { OnOk result (out.new.items ≡ out.old.items ++ unreadable_text line (why_of reason.entry)) }
-{
-    push_line(out, line, heap)?;
-    out.extend_from_slice(b"? ")?;
-    reason.write(out)?;
-    out.extend_from_slice(b"\n")?;
-    Ok(())
-}
-
-// The same, unless it was memory that was wanting.
-fn push_unreadable(
-    out: &mut Vec<u8>,
-    line: u64,
-    error: ReadError<'_>,
-    heap: Global,
-) -> Result<(), AllocError>
-    ensures { OnOk result (Unread line error.entry out.old.items out.new.items) }
-{
-    match error {
-        ReadError::Unreadable(reason) => push_reason(out, line, reason, heap)?,
-        ReadError::Memory => return Err(AllocError),
+    if text.len() > LONGEST {
+        return Err(Refused::TooLong.into());
     }
-    Ok(())
+    carry_out(show, &read(text, heap)?, heap)
 }
 
-// Plays line number `line` of a show: does what its text asks, and writes what is answered behind what `out` holds.
+// Plays line number `line` of a show: does what its text asks, and says what is answered.
 pub fn play_line(
     show: &mut Option<Show>,
     line: u64,
     text: &[u8],
-    out: &mut Vec<u8>,
     heap: Global,
-) -> Result<(), AllocError>
-    ensures { OnOk result (Played line text.now show.old show.new out.old.items out.new.items) }
+) -> Result<String, AllocError>
+    ensures { IfOk result (λ reply. Played line text.now show.old show.new (string_bytes reply)) }
 {
-    if text.len() > LONGEST {
-        push_line(out, line, heap)?;
-        out.extend_from_slice(b"? line too long\n")?;
-        return Ok(());
+    match come_to(show, text, heap) {
+        Ok(answer) => answer.to_string(heap),
+        Err(PlayError::Refused(refused)) => format!(in heap; "line {line}: {refused}\n"),
+        Err(PlayError::Memory(error)) => Err(error),
     }
-    match read(text, heap) {
-        Ok(request) => answer(show, line, &request, out, heap)?,
-        Err(error) => push_unreadable(out, line, error, heap)?,
-    }
-    Ok(())
 }
