@@ -18,6 +18,7 @@ pub enum ReadError {
     Invalid(Refusal),
 }
 
+// By hand, since a contract names the error that `?` makes, and a derive states none.
 impl From<Refusal> for ReadError {
     ghost from_gives = { λ refusal e. e ≡ Invalid refusal };
 

@@ -100,7 +100,7 @@ pub enum Refusal {
 }
 
 impl Refusal {
-    // The refusal's number in the table of refusals.
+    // The refusal's number in the table of refusals, which is what the programs print of it.
     pub fn number(self) -> u8
         ensures { result ≡ (row self).0 }
     {
@@ -116,6 +116,7 @@ impl Refusal {
     }
 }
 
+// Member, channel and count are judged each by itself: a function for all three would hand back a number that is narrowed once more.
 impl TryFrom<u64> for MemberId {
     type Error = Refusal;
 
@@ -200,6 +201,7 @@ impl Action {
         ensures { result ≡ scene_or first levels.now }
     {
         let first = Channel::try_from(first)?;
+        // `as`, since no `From` makes a `u64` of a `usize`
         let count = count_of(levels.len() as u64)?;
         let levels = places_of(levels)?;
         Ok(Action::Scene(Scene {

@@ -2,7 +2,7 @@
 ghost use Rattle.std.specs.Prelude.{◌≡◌, ◌+◌, ◌*◌, ◌≤◌, length, if◌then◌else◌, Some, None};
 ghost use Rattle.std.specs.List.{flat_map};
 ghost use Rattle.commands.specs.Bytes.{bytes2, raised, head_bytes, action_bytes, encode, over, fits};
-ghost use Rattle.commands.specs.Writer.{Puts};
+ghost use Rattle.commands.specs.Writer.{HasRoom, Puts};
 
 use crate::types::{Action, Command, Kind};
 
@@ -23,18 +23,16 @@ fn raise(step: i32) -> u32
 impl Writer<'_> {
     #[tactic(auto, using(crate::proofs::Writes::parts))]
     fn put<const N: usize>(&mut self, bytes: [u8; N])
-        requires { self.old.at + N ≤ length self.old.out.now }
-        ensures lent { self.new.out.ghost_name ≡ self.old.out.ghost_name }
-        ensures puts { Puts self.old self.new bytes.entry }
+        requires { HasRoom self.old N }
+        ensures { Puts self.old self.new bytes.entry }
     {
         self.out[self.at..self.at + N].copy_from_slice(&bytes);
         self.at += N;
     }
 
     fn put_levels(&mut self, levels: &[u16])
-        requires { self.old.at + 2 * length levels.now ≤ length self.old.out.now }
-        ensures lent { self.new.out.ghost_name ≡ self.old.out.ghost_name }
-        ensures puts { Puts self.old self.new (flat_map bytes2 levels.now) }
+        requires { HasRoom self.old (2 * length levels.now) }
+        ensures { Puts self.old self.new (flat_map bytes2 levels.now) }
     {
         for level in levels {
             self.put(level.to_be_bytes());
@@ -43,9 +41,8 @@ impl Writer<'_> {
 
     // What the command does, its kind first.
     fn put_action(&mut self, action: &Action)
-        requires { self.old.at + length (action_bytes action.now) ≤ length self.old.out.now }
-        ensures lent { self.new.out.ghost_name ≡ self.old.out.ghost_name }
-        ensures puts { Puts self.old self.new (action_bytes action.now) }
+        requires { HasRoom self.old (length (action_bytes action.now)) }
+        ensures { Puts self.old self.new (action_bytes action.now) }
     {
         match action {
             Action::Set { channel, level } => {
@@ -69,9 +66,8 @@ impl Writer<'_> {
 
     // What stands before the kind.
     fn put_head(&mut self, command: &Command)
-        requires { self.old.at + 13 ≤ length self.old.out.now }
-        ensures lent { self.new.out.ghost_name ≡ self.old.out.ghost_name }
-        ensures puts { Puts self.old self.new (head_bytes command.now) }
+        requires { HasRoom self.old 13 }
+        ensures { Puts self.old self.new (head_bytes command.now) }
     {
         self.put(command.view.to_be_bytes());
         self.put([command.member.id]);

@@ -37,6 +37,7 @@ impl Event {
         bytes.try_extend_from_slice(last).unwrap();
         match self {
             Event::Delivered(command) => {
+                // places with a size beside them, since there is no heap here, and a command is written to memory that is lent
                 let mut places = [0; 81];
                 let size = command.write(&mut places).unwrap();
                 bytes.push(1);

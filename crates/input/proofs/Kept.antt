@@ -1,8 +1,9 @@
 -- Parts of a line, as far as they are kept. Assumes nothing.
-use Rattle.std.proofs.Common.{◌≡◌, ◌≢◌, ℕ, ◌+◌, ◌-◌, ◌<◌, ◌≤◌, min, Bool, true, false, cond, not, List, [], ◌∷◌, ◌++◌, All, length, take, Some, None, Option, Ok, Err, Result, IfSome, OnSome, OnOk, MatchBool, is_ok, eqb, get_or, ◌⊎◌, inl, inr, sym, refl, ap, subst, ◌∙◌, ⊎_elim, take_all, arith}
+use Rattle.std.proofs.Common.{◌≡◌, ◌≢◌, ℕ, ◌+◌, ◌-◌, ◌<◌, ◌≤◌, min, Bool, true, false, cond, List, [], ◌∷◌, ◌++◌, All, length, take, Some, None, Option, Ok, Err, Result, IfSome, OnSome, OnOk, MatchBool, is_ok, eqb, get_or, ◌⊎◌, inl, inr, sym, refl, ap, subst, ◌∙◌, ⊎_elim, take_all, arith}
 use Rattle.std.proofs.Math.Seq.{take-append-add}
 use Rattle.std.proofs.lemmas.Bool.{cases_lt, eq-eqb, eqb-true}
 use Rattle.std.proofs.lemmas.Bool.Decides.{nat_tests}
+use Rattle.std.proofs.lemmas.Option.{IfSome_then}
 use Rattle.std.proofs.lemmas.List.{length-take, length-take-le, take-take, take-append-le, get_or-take}
 use Rattle.std.proofs.lemmas.List.Elements.{All-take, All-append, All-more}
 use Rattle.std.proofs.BufReadLemmas.{Consumes_through, take_through-nil, take_through_nonempty, zero_unless_positive}
@@ -84,10 +85,10 @@ module _ (was mid is : Option (List ℕ)) (bs part line new : List ℕ) (taken :
       let known = Consumes_through 10 was mid is bs part taken free last.0 last.1 last.2.0 last.2.1 in
       (bs ++ part, both, StopsAt-append bs part 10 free last.1, known.0, known.1)
 
-known_line : (was : Option (List ℕ)) (whole line : List ℕ) (any : Bool) → line ≡ take 12000001 whole → any ≡ not (eqb (length line) 0) → IfSome was (λ xs. whole ≡ take_through 10 xs) → IfSome was (λ xs. (line ≡ kept xs) × MatchBool any (0 < length xs) (length xs ≡ 0))
+known_line : (was : Option (List ℕ)) (whole line : List ℕ) → line ≡ take 12000001 whole → IfSome was (λ xs. whole ≡ take_through 10 xs) → IfSome was (λ xs. (line ≡ kept xs) × MatchBool (eqb (length line) 0) (length xs ≡ 0) (0 < length xs))
 unfolding kept
-known_line None whole line any held told known = tt
-known_line (Some xs) whole line any held told known = (is, by any told)
+known_line None whole line held known = tt
+known_line (Some xs) whole line held known = (is, by (eqb (length line) 0) refl)
   where
     is : line ≡ take 12000001 (take_through 10 xs)
     is = held ∙ ap (take 12000001) known
@@ -95,9 +96,9 @@ known_line (Some xs) whole line any held told known = (is, by any told)
     size : length line ≡ min 12000001 (length (take_through 10 xs))
     size = ap length is ∙ length-take 12000001 (take_through 10 xs)
 
-    by : (any : Bool) → any ≡ not (eqb (length line) 0) → MatchBool any (0 < length xs) (length xs ≡ 0)
-    by true e = take_through_nonempty 10 xs (grind (arith, nat_tests, size, e))
-    by false e = ap length (take_through-nil 10 xs (grind (arith, nat_tests, size, e)))
+    by : (empty : Bool) → empty ≡ eqb (length line) 0 → MatchBool empty (length xs ≡ 0) (0 < length xs)
+    by true e = ap length (take_through-nil 10 xs (grind (arith, nat_tests, size, e)))
+    by false e = take_through_nonempty 10 xs (grind (arith, nat_tests, size, e))
 
 module _ (was is : Option (List ℕ)) (line : List ℕ) (h : IsRead was is line) where
   pub read_short : length line ≤ 12000001
@@ -106,8 +107,8 @@ module _ (was is : Option (List ℕ)) (line : List ℕ) (h : IsRead was is line)
   pub read_one : StopsAt line 10
   read_one = subst (λ l. StopsAt l 10) (sym h.1) (stops_kept 12000001 h.0 h.2)
 
-  pub read_known : (any : Bool) → any ≡ not (eqb (length line) 0) → IfSome was (λ xs. (line ≡ kept xs) × MatchBool any (0 < length xs) (length xs ≡ 0))
-  read_known any e = known_line was h.0 line any h.1 e h.3
+  pub read_known : IfSome was (λ xs. (line ≡ kept xs) × MatchBool (eqb (length line) 0) (length xs ≡ 0) (0 < length xs))
+  read_known = known_line was h.0 line h.1 h.3
 
 -- without the line feed
 stripped : (xs : List ℕ) (r : Bool) → r ≡ ends_with_byte 10 xs → StopsAt xs 10 → All (λ b. b ≢ 10) (cond r (take (length xs - 1) xs) xs) × (length (cond r (take (length xs - 1) xs) xs) ≤ length xs)
@@ -124,7 +125,10 @@ stripped xs false e stops = (no_feed xs e stops, omega arith)
 pub stripped_line : (xs : List ℕ) → StopsAt xs 10 → All (λ b. b ≢ 10) (strip_last 10 xs) × (length (strip_last 10 xs) ≤ length xs)
 stripped_line xs stops = stripped xs _ refl stops
 
-pub next_known : (was : Option (List ℕ)) (line next : List ℕ) (any : Bool) → any ≡ true → next ≡ strip_last 10 line → IfSome was (λ xs. (line ≡ kept xs) × MatchBool any (0 < length xs) (length xs ≡ 0)) → IfSome was (λ xs. (0 < length xs) × (next ≡ kept_line xs))
-next_known None line next any e f h = tt
-next_known (Some xs) line next true e f h = (h.1, f ∙ ap (strip_last 10) h.0)
-next_known (Some xs) line next false e f h = cc e
+-- a line, or none
+module _ (was : Option (List ℕ)) (line : List ℕ) (h : IfSome was (λ xs. (line ≡ kept xs) × MatchBool (eqb (length line) 0) (length xs ≡ 0) (0 < length xs))) where
+  pub no_next : eqb (length line) 0 ≡ true → IfSome was (λ xs. length xs ≡ 0)
+  no_next e = IfSome_then was h (λ xs p. subst (λ b. MatchBool b (length xs ≡ 0) (0 < length xs)) e p.1)
+
+  pub next_known : (next : List ℕ) → eqb (length line) 0 ≡ false → next ≡ strip_last 10 line → IfSome was (λ xs. (0 < length xs) × (next ≡ kept_line xs))
+  next_known next e f = IfSome_then was h (λ xs p. (subst (λ b. MatchBool b (length xs ≡ 0) (0 < length xs)) e p.1, f ∙ ap (strip_last 10) p.0))

@@ -1,7 +1,7 @@
 // The lines of a stream.
 #![tactic(auto)]
 
-ghost use Rattle.std.specs.Prelude.{◌≡◌, ◌≢◌, ◌<◌, ◌≤◌, ◌-◌, ◌++◌, ℕ, List, All, length, take, OnOk, IfOk, IfSome, MatchOption, MatchBool};
+ghost use Rattle.std.specs.Prelude.{◌≡◌, ◌==◌, ◌≢◌, ◌<◌, ◌≤◌, ◌-◌, ◌++◌, ℕ, List, All, length, take, OnOk, IfOk, IfSome, MatchOption, MatchBool};
 ghost use Rattle.std.specs.Borrow.{sem};
 ghost use Rattle.std.specs.Io.{StopsAt};
 ghost use Rattle.std.specs.Io.BufRead.{strip_last, DropsThrough, Rests};
@@ -41,24 +41,24 @@ impl<R: BufRead> Lines<R> {
         ensures* rest { sem 𝓛 (Rests (the_row R.row) self.entry (λ left. OnOk result (DropsThrough (R.remaining self.old.from) (R.remaining left.from) 10))) }
         ensures known { IfOk result (λ o. IfSome (R.remaining self.old.from) (λ xs. MatchOption o (length xs ≡ 0) (λ line. (0 < length xs) × (line.now ≡ kept_line xs)))) }
     {
-        if self.read()? {
-            Ok(Some(without_end(&self.line)))
-        } else {
-            Ok(None)
+        self.read()?;
+        if self.line.is_empty() {
+            return Ok(None);
         }
+        Ok(Some(without_end(&self.line)))
     }
 
-    // Reads the next line with its end, as far as it is kept, and passes over the rest; false at the end of the stream.
-    fn read(&mut self) -> io::Result<bool>
+    // Reads the next line with its end, as far as it is kept, and passes over the rest; at the end of the stream there is none, and nothing is kept.
+    fn read(&mut self) -> io::Result<()>
         ensures short { OnOk result (length self.new.line.items ≤ 12000001) }
         ensures one { OnOk result (StopsAt self.new.line.items 10) }
-        ensures known { IfOk result (λ any. IfSome (R.remaining self.old.from) (λ xs. (self.new.line.items ≡ kept xs) × MatchBool any (0 < length xs) (length xs ≡ 0))) }
+        ensures known { OnOk result (IfSome (R.remaining self.old.from) (λ xs. (self.new.line.items ≡ kept xs) × MatchBool (length self.new.line.items == 0) (length xs ≡ 0) (0 < length xs))) }
         ensures rest { OnOk result (DropsThrough (R.remaining self.old.from) (R.remaining self.new.from) 10) }
     {
         self.line.clear();
         for _ in 0..u64::MAX {
             if take_part(&mut self.from, &mut self.line)? {
-                return Ok(!self.line.is_empty());
+                return Ok(());
             }
         }
         // No stream has a line of so many parts.

@@ -72,6 +72,7 @@ pub enum ReadError<'a> {
     Memory(AllocError),
 }
 
+// By hand, since a contract names the error that `?` makes, and a derive states none. Memory fails with two errors: alone, and with what could not be pushed.
 impl<'a> From<Reason<'a>> for ReadError<'a> {
     ghost from_gives = { λ reason r. r ≡ Unreadable reason };
 

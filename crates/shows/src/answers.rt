@@ -76,6 +76,7 @@ pub enum PlayError<'a> {
     Memory(AllocError),
 }
 
+// By hand, since a contract names the error that `?` makes, and a derive states none.
 impl<'a> From<Refused<'a>> for PlayError<'a> {
     ghost from_gives = { λ r e. e ≡ IsRefused r };
 

@@ -50,6 +50,7 @@ fn desks<'a>(show: &mut Option<Show>, desks: &[u64], heap: Global) -> Result<Ans
 }
 
 // The first of some desks that isn't the one in the show.
+#[tactic(auto, using(std::proofs::lemmas::Grind::common_steps))]
 fn first_other(desk: u64, desks: &[u64]) -> Option<u64>
     ensures { result ≡ first_other desk desks.now }
 {
@@ -147,6 +148,7 @@ fn carry_out<'a>(
 }
 
 // Does what a line asks, where it can be read.
+#[tactic(auto, using(crate::proofs::Lines::not_read))]
 fn come_to<'a>(
     show: &mut Option<Show>,
     text: &'a [u8],

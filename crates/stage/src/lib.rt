@@ -34,7 +34,7 @@ pub enum NotIssued {
 }
 
 impl NotIssued {
-    // Its number in the table of refusals.
+    // Its number in the table of refusals, which is what the programs print of it.
     pub fn number(self) -> u8
         ensures { result ≡ number_of self }
     {
@@ -54,6 +54,7 @@ pub enum IssueError {
     Memory(AllocError),
 }
 
+// By hand, since a contract names the error that `?` makes, and a derive states none.
 impl From<NotIssued> for IssueError {
     ghost from_gives = { λ refusal r. r ≡ Refused refusal };
 

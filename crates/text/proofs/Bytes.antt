@@ -63,9 +63,6 @@ pub solid_splits : (s : List ℕ) (i : ℕ) → i ≤ length s → AllWithin (λ
 solid_splits s i h each stops = sym (after_solids s i h each) ∙ ⊎_elim (λ more. after_stops s i more (stops more)) (λ all. after_all s i all) (cases_lt i (length s))
 
 -- a comment
-comment_none : (s : List ℕ) → take 0 s ++ before_comment (drop 0 s) ≡ before_comment s
-comment_none s = refl
-
 pub comment_more : (s : List ℕ) (i : ℕ) → i < length s → (get_or s i 0 ≡ 35 → ⊥) → take (i + 1) s ++ before_comment (drop (i + 1) s) ≡ take i s ++ before_comment (drop i s)
 unfolding before_comment
 comment_more s i h ne =

@@ -55,6 +55,7 @@ impl FromWord for i32 {
 }
 
 #[tactic(auto, using(crate::proofs::Decimal::raised_is), unfolding(crate::specs::Numeral::raised))]
+// Two functions, since a step downward reaches one further than one upward.
 fn up(size: Option<u64>) -> Option<i32>
     ensures { result ≡ raised size }
 {

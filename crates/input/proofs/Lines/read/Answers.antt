@@ -1,4 +1,3 @@
-use Rattle.std.proofs.Common.{not, eqb, ap, ◌∙◌}
 use Rattle.input.proofs.Kept.{IsRead, kept_fits, more_read, all_read, read_short, read_one, read_known}
 use Rattle.input.proofs.Lines.read.Goals as goal
 
@@ -8,7 +7,7 @@ loop-preserved g c =
     let step = c.in_ok-take_part.ensures (kept_fits _ _ _ inv.3) in
     more_read _ _ _ inv.0 step.0 _ _ inv.1 inv.2 inv.3 step.2 _ c.if-branch.false step.1
 
-line_read : (g : _) (c : goal.After-is_empty g) → IsRead (g.R.Read.remaining c.args.self.now.from) (g.R.Read.remaining c.take_part.new.from) c.take_part.new.line.items
+line_read : (g : _) (c : goal.Then-branch g) → IsRead (g.R.Read.remaining c.args.self.now.from) (g.R.Read.remaining c.take_part.new.from) c.take_part.new.line.items
 line_read g c =
     let inv = c.loop.invariant in
     let step = c.in_ok-take_part.ensures (kept_fits _ _ _ inv.3) in
@@ -21,7 +20,7 @@ pub returns-then-branch-clause-one : goal.returns-then-branch-clause-one
 returns-then-branch-clause-one g c = read_one _ _ _ (line_read g c)
 
 pub returns-then-branch-clause-known : goal.returns-then-branch-clause-known
-returns-then-branch-clause-known g c = read_known _ _ _ (line_read g c) _ (ap not (c.is_empty.ensures ∙ ap (λ n. eqb n 0) c.take_part.new.line.ok.0))
+returns-then-branch-clause-known g c = read_known _ _ _ (line_read g c)
 
 pub returns-then-branch-clause-rest : goal.returns-then-branch-clause-rest
 returns-then-branch-clause-rest g c = (line_read g c).4

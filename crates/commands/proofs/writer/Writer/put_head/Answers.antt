@@ -2,6 +2,6 @@ use Rattle.std.proofs.Common.{refl, arith}
 use Rattle.commands.proofs.Writes.{puts_none, then_puts}
 use Rattle.commands.proofs.writer.Writer.put_head.Goals as goal
 
-pub returns-clause-puts : goal.returns-clause-puts
-returns-clause-puts c =
-    then_puts _ (omega arith) (then_puts _ (omega arith) (then_puts _ (omega arith) (then_puts _ (omega arith) (puts_none _) c.put.ensures.puts c.to_be_bytes.ensures) c.put-2.ensures.puts refl) c.put-3.ensures.puts c.to_be_bytes-2.ensures) c.put-4.ensures.puts c.to_be_bytes-3.ensures
+pub returns : goal.returns
+returns c =
+    then_puts _ (omega arith) (then_puts _ (omega arith) (then_puts _ (omega arith) (then_puts _ (omega arith) (puts_none _) c.put.ensures c.to_be_bytes.ensures) c.put-2.ensures refl) c.put-3.ensures c.to_be_bytes-2.ensures) c.put-4.ensures c.to_be_bytes-3.ensures
