@@ -1,8 +1,7 @@
 -- What `decode` comes to, way by way.
-use Rattle.std.proofs.Common.{◌≡◌, ℕ, ◌<◌, ◌≤◌, true, false, ◌||◌, eqb, ltb, List, length, get_or, Ok, Err, arith}
+use Rattle.std.proofs.Common.{◌≡◌, ℕ, ◌<◌, ◌≤◌, false, ◌||◌, eqb, ltb, List, length, get_or, Ok, Err, arith}
 use Rattle.commands.specs.declared.types.Command.{Command}
-use Rattle.commands.specs.declared.types.Refusal.TheVariants.{Kind}
-use Rattle.commands.specs.declared.reader.ReadError.TheVariants.{CutShort, Invalid}
+use Rattle.commands.specs.declared.reader.ReadError.TheVariants.{CutShort}
 use Rattle.commands.specs.Bytes.{decode, size_as, read_as, command_at}
 
 -- each kind takes so many
@@ -14,10 +13,6 @@ unfolding decode
 decode_short b h = grind arith
 
 module _ (b : List ℕ) (k : ℕ) (there : 14 ≤ length b) (is : get_or b 13 0 ≡ k) where
-  pub decode_unknown : (eqb k 0 || ltb 3 k) ≡ true → decode b ≡ Err (Invalid (Kind k))
-  unfolding decode
-  decode_unknown u = grind arith
-
   pub decode_cut : (eqb k 0 || ltb 3 k) ≡ false → length b < size_as k b → decode b ≡ Err CutShort
   unfolding decode
   decode_cut u h = grind arith

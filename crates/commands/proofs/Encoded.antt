@@ -3,6 +3,7 @@ use Rattle.std.proofs.Common.{◌≡◌, ℕ, ◌+◌, ◌/◌, ◌%◌, ◌*◌
 use Rattle.std.specs.List.{flat_map, AllByRecursion}
 use Rattle.std.proofs.lemmas.Grind.{common_steps}
 use Rattle.std.proofs.lemmas.List.{length-append, append_cancel_left, length-take-le}
+use Rattle.std.proofs.lemmas.Nat.{from_be_bytes-to_be_bytes_2, from_be_bytes-to_be_bytes_4}
 use Rattle.std.proofs.ByRecursion.{All-take}
 use Rattle.commands.specs.declared.types.Scene.{Scene}
 use Rattle.commands.specs.declared.types.Action.{Action}
@@ -12,7 +13,7 @@ use Rattle.commands.specs.declared.reader.ReadError.{ReadError}
 use Rattle.commands.specs.Values.{Valid, ValidAction, ValidScene, padded}
 use Rattle.commands.specs.Bytes.{bytes2, at2, list_at, raised, encode, decode, head_bytes, action_bytes, size_as, action_as, command_at, read_as}
 use Rattle.commands.specs.Laws.{ReadsBack, PrefixFree}
-use Rattle.commands.proofs.Digits.{number2, number4, lowered-raised, raised_fits}
+use Rattle.commands.proofs.Digits.{lowered-raised, raised_fits}
 use Rattle.commands.proofs.Decode.{decode_whole}
 use Rattle.commands.proofs.Writes.{length-encode, length-levels}
 
@@ -44,7 +45,7 @@ levels_back : (vs front rest : List ℕ) (i : ℕ) → AllByRecursion (λ l. l <
 levels_back [] front rest i a e = refl
 levels_back (v ∷ vs) front rest i a e =
     let first = pair_back front (flat_map bytes2 vs ++ rest) (v / 256 % 256) (v % 256) i e in
-    let n = number2 v a.0 in
+    let n = from_be_bytes-to_be_bytes_2 v a.0 in
     let others = levels_back vs (front ++ bytes2 v) rest (i + 2) a.1 (let l = length-append front (bytes2 v) in omega arith) in
     grind (arith, common_steps)
 
@@ -53,8 +54,8 @@ places_back : (s : Scene) → ValidScene s → padded (take s.count s.levels) �
 places_back s v = grind (arith, common_steps)
 
 action_back : (h : Command) (a : Action) (rest : List ℕ) → ValidAction a → action_as (kind_of a) (head_bytes h ++ (action_bytes a ++ rest)) ≡ Ok a
-action_back h (Set c l) rest v = let i = number2 c.index (omega (arith, v.0)) in let n = number2 l v.1 in grind arith
-action_back h (Move c s) rest v = let i = number2 c.index (omega (arith, v.0)) in let n = number4 (raised s) (raised_fits s v.1) in let l = lowered-raised s v.1 in grind arith
+action_back h (Set c l) rest v = let i = from_be_bytes-to_be_bytes_2 c.index (omega (arith, v.0)) in let n = from_be_bytes-to_be_bytes_2 l v.1 in grind arith
+action_back h (Move c s) rest v = let i = from_be_bytes-to_be_bytes_2 c.index (omega (arith, v.0)) in let n = from_be_bytes-to_be_bytes_4 (raised s) (raised_fits s v.1) in let l = lowered-raised s v.1 in grind arith
 action_back h (OfScene s) rest v =
     let places = v.places in
     let few = v.few in
@@ -63,16 +64,16 @@ action_back h (OfScene s) rest v =
     let front : List ℕ = head_bytes h ++ (3 ∷ (bytes2 s.first.index ++ (s.count ∷ []))) in
     let levels = levels_back vs front rest 17 (All-take (λ l. l < 2 ^ 16) s.count s.levels v.words) refl in
     let same = places_back s v in
-    let i = number2 s.first.index (let f = v.first in omega arith) in
+    let i = from_be_bytes-to_be_bytes_2 s.first.index (let f = v.first in omega arith) in
     grind arith
 
 -- the command is what its bytes say
 command_back : (c : Command) (rest : List ℕ) → Valid c → command_at (whole c rest) ≡ Ok c
 command_back c rest v =
     let kind = ap (λ k. action_as k (whole c rest)) (kind_there c c.action rest) ∙ action_back c c.action rest v.action in
-    let view = number4 c.view v.view in
-    let number = number4 c.number v.number in
-    let stamp = number4 c.stamp v.stamp in
+    let view = from_be_bytes-to_be_bytes_4 c.view v.view in
+    let number = from_be_bytes-to_be_bytes_4 c.number v.number in
+    let stamp = from_be_bytes-to_be_bytes_4 c.stamp v.stamp in
     grind arith
 
 pub size_there : (h : Command) (a : Action) (rest : List ℕ) → ValidAction a → size_as (kind_of a) (head_bytes h ++ (action_bytes a ++ rest)) ≡ 13 + length (action_bytes a)

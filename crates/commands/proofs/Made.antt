@@ -7,7 +7,7 @@ use Rattle.commands.specs.declared.types.MemberId.{MemberId}
 use Rattle.commands.specs.declared.types.Channel.{Channel}
 use Rattle.commands.specs.declared.types.Action.{Action}
 use Rattle.commands.specs.declared.types.Command.{Command}
-use Rattle.commands.specs.Values.{Valid, ValidAction, ValidScene, first_high, padded, member_or, set_or, move_or, scene_or, command_or}
+use Rattle.commands.specs.Values.{Valid, ValidAction, ValidScene, first_high, padded, member_or, channel_or, set_or, move_or, scene_or, command_or}
 use Rattle.commands.specs.Laws.{Makers}
 
 zeros_below : (k : ℕ) → AllByRecursion (λ l. l < 2 ^ 16) (replicate k 0)
@@ -27,6 +27,9 @@ none_high (l ∷ ls) h = grind (arith, none_high ls)
 member_made : (m : ℕ) (x : MemberId) → member_or m ≡ Ok x → x.id ≤ 63
 member_made m x h = grind arith
 
+channel_made : (c : ℕ) (x : Channel) → channel_or c ≡ Ok x → x.index ≤ 511
+channel_made c x h = grind arith
+
 set_made : (c l : ℕ) (a : Action) → set_or c l ≡ Ok a → ValidAction a
 set_made c l a h = grind arith
 
@@ -40,4 +43,4 @@ command_made : (v : ℕ) (m : MemberId) (n s : ℕ) (a : Action) (c : Command) �
 command_made v m n s a c vb mb nb sb av h = grind arith
 
 pub makers : Makers
-makers = record { member = member_made; set = set_made; move = move_made; scene = scene_made; command = command_made }
+makers = record { member = member_made; channel = channel_made; set = set_made; move = move_made; scene = scene_made; command = command_made }

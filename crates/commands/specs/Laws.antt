@@ -3,10 +3,11 @@ use Rattle.std.specs.Prelude.{◌≡◌, ℕ, ◌^◌, ◌<◌, ◌≤◌, List,
 use Rattle.std.specs.Int.{w32}
 use Rattle.std.specs.List.{AllByRecursion}
 use Rattle.commands.specs.declared.types.MemberId.{MemberId}
+use Rattle.commands.specs.declared.types.Channel.{Channel}
 use Rattle.commands.specs.declared.types.Action.{Action}
 use Rattle.commands.specs.declared.types.Command.{Command}
 use Rattle.commands.specs.declared.reader.ReadError.TheVariants.{CutShort}
-use Rattle.commands.specs.Values.{Valid, ValidAction, member_or, set_or, move_or, scene_or, command_or}
+use Rattle.commands.specs.Values.{Valid, ValidAction, member_or, channel_or, set_or, move_or, scene_or, command_or}
 use Rattle.commands.specs.Bytes.{encode, decode}
 
 -- a list of bytes
@@ -36,6 +37,7 @@ AreBytes = (c : Command) → Valid c → Bytes (encode c) × (18 ≤ length (enc
 -- what the makers make is valid
 pub record Makers : Type 0 where
   pub member : (m : ℕ) (x : MemberId) → member_or m ≡ Ok x → x.id ≤ 63
+  pub channel : (c : ℕ) (x : Channel) → channel_or c ≡ Ok x → x.index ≤ 511
   pub set : (c l : ℕ) (a : Action) → set_or c l ≡ Ok a → ValidAction a
   pub move : (c : ℕ) (s : ℤ) (a : Action) → FitsSigned w32 s → move_or c s ≡ Ok a → ValidAction a
   pub scene : (c : ℕ) (ls : List ℕ) (a : Action) → scene_or c ls ≡ Ok a → ValidAction a

@@ -34,20 +34,15 @@ fn lower(n: u32) -> i32
     i32::MIN.wrapping_add_unsigned(n)
 }
 
-impl Kind {
-    // How many bytes a command of this kind takes; a scene says how many levels it has.
-    fn size(self, bytes: &[u8]) -> usize
-        ensures { result ≡ size_as (code_of self) bytes.now }
-    {
-        match self {
-            Kind::Set => 18,
-            Kind::Move => 20,
-            Kind::Scene => 17 + 2 * bytes.get(16).map_or(0, |count| usize::from(*count)),
-        }
-    }
+// How many levels a scene says that it has; a byte that isn't there counts as 0.
+fn count_in(bytes: &[u8]) -> usize
+    ensures few { result ≤ 255 }
+    ensures value { result ≡ slice_index bytes.now 16 }
+{
+    bytes.get(16).map_or(0, |count| usize::from(*count))
 }
 
-// Bytes, and how many of them are read.
+// Bytes, and how many of them are read. The place is kept, and not the rest alone, since what is read is said by its place (`at2`, `at4`, `list_at`).
 #[derive(Drop)]
 struct Reader<'a> {
     bytes: &'a [u8],
@@ -134,7 +129,7 @@ impl Command {
             return Err(ReadError::CutShort);
         };
         let kind = Kind::try_from(*kind)?;
-        let size = kind.size(bytes);
+        let size = kind.size(count_in(bytes));
         if bytes.len() < size {
             return Err(ReadError::CutShort);
         }

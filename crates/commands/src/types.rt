@@ -1,6 +1,6 @@
 // What a command is. Fields are private to the crate: a value is made only by functions that refuse what can't be.
 ghost use Rattle.std.specs.Prelude.{◌≡◌, ◌≤◌, length, take};
-ghost use Rattle.commands.specs.Kind.{kind_or};
+ghost use Rattle.commands.specs.Kind.{code_of, sized, kind_or};
 ghost use Rattle.commands.specs.Values.{row, member_or, channel_or, level_or, count_or, first_high, unless_high, padded, set_or, move_or, scene_or, command_or};
 
 use thiserror::Error;
@@ -18,7 +18,7 @@ pub struct Channel {
 }
 
 // Levels for the channels from `first` on: as many as `count` says, 1 to 32. Those past the count are 0, so that one value has one form.
-// An array and a count, and no `ArrayVec`, since that is not `Copy`, as a command is.
+// An array and a count: with an `ArrayVec`, which is not `Copy`, a command, public and `Copy`, would no longer be.
 #[derive(Clone, Copy)]
 pub struct Scene {
     pub(crate) first: Channel,
@@ -43,6 +43,7 @@ impl Scene {
         ensures few { length result.now ≤ 32 }
         ensures value { result.now ≡ take self.now.count self.now.levels }
     {
+        // `min`, since no ghost field holds that the count is at most 32: every definition that builds a scene would owe a proof (docs/DECISIONS.md)
         &self.levels[..usize::from(self.count).min(32)]
     }
 }
@@ -53,6 +54,20 @@ pub(crate) enum Kind {
     Set = 1,
     Move = 2,
     Scene = 3,
+}
+
+impl Kind {
+    // How many bytes a command of this kind takes, where a scene has so many levels.
+    pub(crate) fn size(self, levels: usize) -> usize
+        requires { levels ≤ 255 }
+        ensures { result ≡ sized (code_of self) levels }
+    {
+        match self {
+            Kind::Set => 18,
+            Kind::Move => 20,
+            Kind::Scene => 17 + 2 * levels,
+        }
+    }
 }
 
 impl TryFrom<u8> for Kind {
@@ -152,12 +167,14 @@ impl Channel {
     }
 }
 
+// A function, since `u16` is not ours: no `TryFrom` of it can refuse with our error.
 fn level_of(level: u64) -> Result<u16, Refusal>
     ensures { result ≡ level_or level }
 {
     u16::try_from(level).map_err(|_| Refusal::Level(level))
 }
 
+// A function, since `u8` is not ours either.
 pub(crate) fn count_of(count: u64) -> Result<u8, Refusal>
     ensures { result ≡ count_or count }
 {
@@ -174,7 +191,7 @@ fn places_of(levels: &[u64]) -> Result<[u16; 32], Refusal>
     ensures { result ≡ unless_high (first_high levels.now) (padded levels.now) }
 {
     let mut places = [0; 32];
-    // by index: of places that `iter_mut` lends to a `zip`, a proof knows only how many there are
+    // by index (tried: of places that `iter_mut` lends to a `zip`, a proof knows only how many there are)
     for (k, level) in levels.iter().enumerate() {
         places[k] = level_of(*level)?;
     }

@@ -6,7 +6,7 @@ ghost use Rattle.commands.specs.Writer.{HasRoom, Puts};
 
 use crate::types::{Action, Command, Kind};
 
-// Lent memory, and how much of its front is written.
+// Lent memory, since this crate has no heap, and how much of its front is written.
 #[derive(Drop)]
 struct Writer<'a> {
     out: &'a mut [u8],
@@ -84,9 +84,9 @@ impl Command {
         ensures value { result ≡ length (encode self.now) }
     {
         match &self.action {
-            Action::Set { .. } => 18,
-            Action::Move { .. } => 20,
-            Action::Scene(scene) => 17 + 2 * scene.levels().len(),
+            Action::Set { .. } => Kind::Set.size(0),
+            Action::Move { .. } => Kind::Move.size(0),
+            Action::Scene(scene) => Kind::Scene.size(scene.levels().len()),
         }
     }
 

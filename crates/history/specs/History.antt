@@ -1,5 +1,5 @@
 -- What a member has done, in order, and what that makes: levels, count and digest.
-use Rattle.std.specs.Prelude.{ℕ, ◌+◌, ◌%◌, ◌^◌, List, ◌∷◌, ◌++◌, fold, map, replicate}
+use Rattle.std.specs.Prelude.{◌≡◌, ℕ, ◌+◌, ◌%◌, ◌^◌, List, ◌∷◌, ◌++◌, fold, map, replicate}
 use Rattle.commands.specs.declared.types.Command.{Command}
 use Rattle.commands.specs.Levels.{applied}
 use Rattle.commands.specs.Bytes.{encode, bytes4}
@@ -50,3 +50,7 @@ levels_of es = levels_from first_levels es
 
 abbrev pub record_of : List Event → Record
 record_of es = record_from first_record es
+
+-- whatever history some levels and a record stood for, other levels and another record stand for it with more events behind
+abbrev pub GoesOn : List ℕ → Record → List ℕ → Record → List Event → Type 0
+GoesOn ls r ms s more = (es : List Event) → r ≡ record_of es → ls ≡ levels_of es → (s ≡ record_of (es ++ more)) × (ms ≡ levels_of (es ++ more))

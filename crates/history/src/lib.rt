@@ -3,9 +3,9 @@
 
 pub mod laws;
 
-ghost use Rattle.std.specs.Prelude.{◌≡◌, List, [], ◌∷◌, ◌++◌};
+ghost use Rattle.std.specs.Prelude.{◌≡◌, ℕ, List, [], ◌∷◌, ◌++◌};
 ghost use Rattle.commands.specs.Levels.{applied};
-ghost use Rattle.history.specs.History.{event_bytes, record_after, levels_from, record_from, levels_of, record_of, deliveries};
+ghost use Rattle.history.specs.History.{event_bytes, record_after, levels_from, record_from, record_of, deliveries, GoesOn};
 
 use arrayvec::ArrayVec;
 use commands::types::Command;
@@ -28,7 +28,8 @@ pub enum Event {
 }
 
 impl Event {
-    // The bytes of which the next digest is made: the last digest, then the event's. The longest command needs 114 places.
+    // The bytes of which the next digest is made: the last digest, then the event's, whose first byte says which it is. The longest command needs 114 places.
+    // (The format's 1 and 2 stand here alone, so no enum has them.)
     #[tactic(auto, using(std::proofs::lemmas::Grind::common_steps, crate::proofs::Written::written))]
     fn message(&self, last: &[u8; 32]) -> ArrayVec<u8, 114>
         ensures { result.items ≡ last.now ++ event_bytes self.now }
@@ -37,7 +38,7 @@ impl Event {
         bytes.try_extend_from_slice(last).unwrap();
         match self {
             Event::Delivered(command) => {
-                // places with a size beside them, since there is no heap here, and a command is written to memory that is lent
+                // places with a size beside them: a command is written to memory that is lent, and a second way to write it would be no plainer
                 let mut places = [0; 81];
                 let size = command.write(&mut places).unwrap();
                 bytes.push(1);
@@ -78,7 +79,7 @@ impl Record {
     pub fn deliver(self, levels: &mut [u16], command: &Command) -> Record
         ensures value { result ≡ record_after self (Event.Delivered command.now) }
         ensures after { levels.new ≡ applied command.now.action levels.old }
-        ensures history { (es : List Event) → self ≡ record_of es → levels.old ≡ levels_of es → (result ≡ record_of (es ++ (Event.Delivered command.now ∷ []))) × (levels.new ≡ levels_of (es ++ (Event.Delivered command.now ∷ []))) }
+        ensures history { GoesOn levels.old self levels.new result (Event.Delivered command.now ∷ []) }
     {
         command.apply(levels);
         self.after(&Event::Delivered(*command))
@@ -88,7 +89,7 @@ impl Record {
     pub fn deliver_all(self, levels: &mut [u16], commands: &[Command]) -> Record
         ensures value { result ≡ record_from self (deliveries commands.now) }
         ensures after { levels.new ≡ levels_from levels.old (deliveries commands.now) }
-        ensures history { (es : List Event) → self ≡ record_of es → levels.old ≡ levels_of es → (result ≡ record_of (es ++ deliveries commands.now)) × (levels.new ≡ levels_of (es ++ deliveries commands.now)) }
+        ensures history { GoesOn levels.old self levels.new result (deliveries commands.now) }
     {
         let mut record = self;
         for command in commands {
@@ -100,7 +101,7 @@ impl Record {
     // One view more: the levels stay as they are.
     pub fn enter(self, view: u32) -> Record
         ensures value { result ≡ record_after self (Event.Entered view) }
-        ensures history { (es : List Event) → self ≡ record_of es → (result ≡ record_of (es ++ (Event.Entered view ∷ []))) × (levels_of (es ++ (Event.Entered view ∷ [])) ≡ levels_of es) }
+        ensures history { (levels : List ℕ) → GoesOn levels self levels result (Event.Entered view ∷ []) }
     {
         self.after(&Event::Entered(view))
     }

@@ -4,7 +4,7 @@ use Rattle.std.proofs.Math.Seq.{take-append-add}
 use Rattle.std.proofs.lemmas.Bool.{cases_lt, eq-eqb, eqb-true}
 use Rattle.std.proofs.lemmas.Bool.Decides.{nat_tests}
 use Rattle.std.proofs.lemmas.Option.{IfSome_then}
-use Rattle.std.proofs.lemmas.List.{length-take, length-take-le, take-take, take-append-le, get_or-take}
+use Rattle.std.proofs.lemmas.List.{length-take, take_min, length-take-le, take-take, take-append-le, get_or-take}
 use Rattle.std.proofs.lemmas.List.Elements.{All-take, All-append, All-more}
 use Rattle.std.proofs.BufReadLemmas.{Consumes_through, take_through-nil, take_through_nonempty, zero_unless_positive}
 use Rattle.std.proofs.KnownBytes.{Consumes-trans}
@@ -12,7 +12,7 @@ use Rattle.std.proofs.Transfers.{StopsAt-append}
 use Rattle.std.specs.Io.{StopsAt, IsEmptyOrEndsWith}
 use Rattle.std.specs.Io.BufRead.{take_through, strip_last, ends_with_byte, DropsThrough}
 use Rattle.std.specs.Io.KnownBytes.{Consumes, IsAtEnd}
-use Rattle.input.specs.Line.{kept, kept_line, IsPart}
+use Rattle.input.specs.Line.{most, kept, kept_line, IsPart}
 
 -- as many as there is room for
 room : (n : ℕ) (a b : List ℕ) → length a ≤ n → take n (a ++ b) ≡ a ++ take (n - length a) b
@@ -20,15 +20,8 @@ room n a b h =
     let all : n ≡ length a + (n - length a) = omega arith in
     ap (λ k. take k (a ++ b)) all ∙ take-append-add a b (n - length a)
 
-take_least : (m : ℕ) (b : List ℕ) → take (min (length b) m) b ≡ take m b
-take_least m b =
-    ⊎_elim
-    (λ short. ap (λ k. take k b) (omega arith) ∙ take_all (length b) b (omega arith) ∙ sym (take_all m b (omega arith)))
-    (λ long. ap (λ k. take k b) (omega arith))
-    (cases_lt (length b) m)
-
-pub part_kept : {T E : Type 0} (r : Result T E) (was part is : List ℕ) (k : ℕ) → is ≡ cond (is_ok r) (was ++ take k part) was → k ≡ min (length part) (12000001 - length was) → OnOk r (length was ≤ 12000001 → is ≡ take 12000001 (was ++ part))
-part_kept (Ok x) was part is k e size = λ fits. e ∙ ap (λ l. was ++ l) (ap (λ n. take n part) size ∙ take_least (12000001 - length was) part) ∙ sym (room 12000001 was part fits)
+pub part_kept : {T E : Type 0} (r : Result T E) (was part is : List ℕ) (k : ℕ) → is ≡ cond (is_ok r) (was ++ take k part) was → k ≡ min (most - length was) (length part) → OnOk r (length was ≤ most → is ≡ take most (was ++ part))
+part_kept (Ok x) was part is k e size = λ fits. e ∙ ap (λ l. was ++ l) (ap (λ n. take n part) size ∙ take_min (most - length was) part) ∙ sym (room most was part fits)
 part_kept (Err x) was part is k e size = tt
 
 -- what is kept of a line and its next part is what is kept of both
@@ -68,13 +61,13 @@ shown_part shown n false was is within some before end told =
 
 -- what is read of a line once its last part is taken
 abbrev pub IsRead : Option (List ℕ) → Option (List ℕ) → List ℕ → Type 0
-IsRead was is line = (whole : List ℕ) × (line ≡ take 12000001 whole) × StopsAt whole 10 × IfSome was (λ xs. whole ≡ take_through 10 xs) × DropsThrough was is 10
+IsRead was is line = (whole : List ℕ) × (line ≡ take most whole) × StopsAt whole 10 × IfSome was (λ xs. whole ≡ take_through 10 xs) × DropsThrough was is 10
 
-module _ (was mid is : Option (List ℕ)) (bs part line new : List ℕ) (taken : Consumes was mid bs) (free : All (λ b. b ≢ 10) bs) (held : line ≡ take 12000001 bs) (longer : new ≡ take 12000001 (line ++ part)) where
-  both : new ≡ take 12000001 (bs ++ part)
-  both = longer ∙ ap (λ l. take 12000001 (l ++ part)) held ∙ kept_more 12000001 bs part
+module _ (was mid is : Option (List ℕ)) (bs part line new : List ℕ) (taken : Consumes was mid bs) (free : All (λ b. b ≢ 10) bs) (held : line ≡ take most bs) (longer : new ≡ take most (line ++ part)) where
+  both : new ≡ take most (bs ++ part)
+  both = longer ∙ ap (λ l. take most (l ++ part)) held ∙ kept_more most bs part
 
-  pub more_read : (done : Bool) → done ≡ false → IsPart done part mid is → (xs : List ℕ) × Consumes was is xs × All (λ b. b ≢ 10) xs × (new ≡ take 12000001 xs)
+  pub more_read : (done : Bool) → done ≡ false → IsPart done part mid is → (xs : List ℕ) × Consumes was is xs × All (λ b. b ≢ 10) xs × (new ≡ take most xs)
   more_read done e h =
       let rest = subst (λ d. IsPart d part mid is) e h in
       (bs ++ part, Consumes-trans was mid is bs part taken rest.0, All-append (λ b. b ≢ 10) bs part free rest.2, both)
@@ -85,27 +78,27 @@ module _ (was mid is : Option (List ℕ)) (bs part line new : List ℕ) (taken :
       let known = Consumes_through 10 was mid is bs part taken free last.0 last.1 last.2.0 last.2.1 in
       (bs ++ part, both, StopsAt-append bs part 10 free last.1, known.0, known.1)
 
-known_line : (was : Option (List ℕ)) (whole line : List ℕ) → line ≡ take 12000001 whole → IfSome was (λ xs. whole ≡ take_through 10 xs) → IfSome was (λ xs. (line ≡ kept xs) × MatchBool (eqb (length line) 0) (length xs ≡ 0) (0 < length xs))
+known_line : (was : Option (List ℕ)) (whole line : List ℕ) → line ≡ take most whole → IfSome was (λ xs. whole ≡ take_through 10 xs) → IfSome was (λ xs. (line ≡ kept xs) × MatchBool (eqb (length line) 0) (length xs ≡ 0) (0 < length xs))
 unfolding kept
 known_line None whole line held known = tt
 known_line (Some xs) whole line held known = (is, by (eqb (length line) 0) refl)
   where
-    is : line ≡ take 12000001 (take_through 10 xs)
-    is = held ∙ ap (take 12000001) known
+    is : line ≡ take most (take_through 10 xs)
+    is = held ∙ ap (take most) known
 
-    size : length line ≡ min 12000001 (length (take_through 10 xs))
-    size = ap length is ∙ length-take 12000001 (take_through 10 xs)
+    size : length line ≡ min most (length (take_through 10 xs))
+    size = ap length is ∙ length-take most (take_through 10 xs)
 
     by : (empty : Bool) → empty ≡ eqb (length line) 0 → MatchBool empty (length xs ≡ 0) (0 < length xs)
     by true e = ap length (take_through-nil 10 xs (grind (arith, nat_tests, size, e)))
     by false e = take_through_nonempty 10 xs (grind (arith, nat_tests, size, e))
 
 module _ (was is : Option (List ℕ)) (line : List ℕ) (h : IsRead was is line) where
-  pub read_short : length line ≤ 12000001
-  read_short = kept_fits 12000001 h.0 line h.1
+  pub read_short : length line ≤ most
+  read_short = kept_fits most h.0 line h.1
 
   pub read_one : StopsAt line 10
-  read_one = subst (λ l. StopsAt l 10) (sym h.1) (stops_kept 12000001 h.0 h.2)
+  read_one = subst (λ l. StopsAt l 10) (sym h.1) (stops_kept most h.0 h.2)
 
   pub read_known : IfSome was (λ xs. (line ≡ kept xs) × MatchBool (eqb (length line) 0) (length xs ≡ 0) (0 < length xs))
   read_known = known_line was h.0 line h.1 h.3
@@ -125,10 +118,6 @@ stripped xs false e stops = (no_feed xs e stops, omega arith)
 pub stripped_line : (xs : List ℕ) → StopsAt xs 10 → All (λ b. b ≢ 10) (strip_last 10 xs) × (length (strip_last 10 xs) ≤ length xs)
 stripped_line xs stops = stripped xs _ refl stops
 
--- a line, or none
-module _ (was : Option (List ℕ)) (line : List ℕ) (h : IfSome was (λ xs. (line ≡ kept xs) × MatchBool (eqb (length line) 0) (length xs ≡ 0) (0 < length xs))) where
-  pub no_next : eqb (length line) 0 ≡ true → IfSome was (λ xs. length xs ≡ 0)
-  no_next e = IfSome_then was h (λ xs p. subst (λ b. MatchBool b (length xs ≡ 0) (0 < length xs)) e p.1)
-
-  pub next_known : (next : List ℕ) → eqb (length line) 0 ≡ false → next ≡ strip_last 10 line → IfSome was (λ xs. (0 < length xs) × (next ≡ kept_line xs))
-  next_known next e f = IfSome_then was h (λ xs p. (subst (λ b. MatchBool b (length xs ≡ 0) (0 < length xs)) e p.1, f ∙ ap (strip_last 10) p.0))
+-- a line where one is left
+pub next_known : (was : Option (List ℕ)) (line : List ℕ) → IfSome was (λ xs. (line ≡ kept xs) × MatchBool (eqb (length line) 0) (length xs ≡ 0) (0 < length xs)) → (next : List ℕ) → eqb (length line) 0 ≡ false → next ≡ strip_last 10 line → IfSome was (λ xs. (0 < length xs) × (next ≡ kept_line xs))
+next_known was line h next e f = IfSome_then was h (λ xs p. (subst (λ b. MatchBool b (length xs ≡ 0) (0 < length xs)) e p.1, f ∙ ap (strip_last 10) p.0))

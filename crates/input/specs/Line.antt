@@ -4,9 +4,13 @@ use Rattle.std.specs.Io.{StopsAt, IsEmptyOrEndsWith}
 use Rattle.std.specs.Io.BufRead.{take_through, strip_last}
 use Rattle.std.specs.Io.KnownBytes.{Consumes, IsAtEnd}
 
--- the bytes through the first line feed, of a line that is too long one byte more than a line may have
+-- how many bytes are kept at most: one byte more than a line may have
+abbrev pub most : ℕ
+most = 12000001
+
+-- the bytes through the first line feed, as far as they are kept
 unfoldable pub kept : List ℕ → List ℕ
-kept xs = take 12000001 (take_through 10 xs)
+kept xs = take most (take_through 10 xs)
 
 -- the same without the line feed
 abbrev pub kept_line : List ℕ → List ℕ

@@ -80,6 +80,7 @@ fn action<'a>(mut rest: Reader<'a>) -> Result<Action, ReadError<'a>>
     }
 }
 
+// `set` and `shift` differ only in the variant that they make: one function for both would have to be handed the variant and its meaning, and is no plainer.
 fn set<'a>(mut rest: Reader<'a>) -> Result<Action, ReadError<'a>>
     ensures { Tells action_meant (set_said (unread rest.entry)) result }
 {

@@ -77,6 +77,7 @@ impl<'a> Reader<'a> {
     }
 }
 
+// Not a `From`, since the reason names the word.
 fn hex_error<'a>(word: &'a [u8], e: HexError) -> ReadError<'a>
     ensures { result ≡ hex_error word.entry e }
 {

@@ -21,5 +21,5 @@ pub fn digest(bytes: &[u8]) -> [u8; 32]
     State::initial()
         .absorb(blocks)
         .absorb(end.as_slice().as_chunks::<64>().0)
-        .to_bytes()
+        .into()
 }

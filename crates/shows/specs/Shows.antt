@@ -1,6 +1,7 @@
 -- What the lines of a show do.
-use Rattle.std.specs.Prelude.{◌≡◌, ℕ, Bool, true, false, cond, List, [], ◌∷◌, length, is_ok, Some, None, Ok, Err, vec_items, String, string_bytes, MatchBool, ◌⊎◌, Option, Result, ◌==◌, nat_le}
+use Rattle.std.specs.Prelude.{◌≡◌, ℕ, Bool, true, false, not, cond, List, [], ◌∷◌, length, is_ok, Some, None, Ok, Err, vec_items, String, string_bytes, MatchBool, ◌⊎◌, Option, Result, ◌==◌, nat_le}
 use Rattle.std.specs.Allocator.{alloc_error}
+use Rattle.std.specs.List.{find}
 use Rattle.std.specs.declared.alloc.Global.{Global}
 use Rattle.commands.specs.declared.types.Action.{Action}
 use Rattle.commands.specs.declared.types.Refusal.{Refusal}
@@ -40,8 +41,7 @@ action_or (Scene c ls) = scene_or c (vec_items ls)
 
 -- the first of some desks that isn't the one in the show
 abbrev pub first_other : ℕ → List ℕ → Option ℕ
-first_other desk [] = None
-first_other desk (d ∷ ds) = cond (d == desk) (first_other desk ds) (Some d)
+first_other desk ds = find (λ d. not (d == desk)) ds
 
 -- why a line that was read can't be carried out
 abbrev pub cannot_as : Why → PlayError
@@ -66,7 +66,7 @@ pub record Fresh (d : ℕ) (s : Show) : Type 0 where
 abbrev pub DesksGiven : Option Show → List ℕ → Option Show → Result Answer PlayError → Type 0
 DesksGiven s ds t (Ok a) = (a ≡ Nothing) × ((d : ℕ) × (x : Show) × (desk_or s ds ≡ Ok d) × (t ≡ Some x) × Fresh d x)
 DesksGiven s ds t (Err (Refused w)) = ((y : Why) × (desk_or s ds ≡ Err y) × (w ≡ Cannot y)) × (t ≡ s)
-DesksGiven s ds t (Err (Memory e)) = t ≡ s
+DesksGiven s ds t (Err (Memory e)) = ⊥
 
 -- how a circle of desks that are all in the show is answered
 abbrev pub own_circle : Bool → List ℕ → Result Answer PlayError

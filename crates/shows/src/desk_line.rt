@@ -7,20 +7,13 @@ use hexadecimal::Hex;
 use std::fmt;
 
 // Where a desk stands: in circle 0 or in none.
-#[derive(Clone, Copy)]
-struct Place {
-    inside: bool,
+fn place(inside: bool) -> &'static str
+    ensures { result.now ≡ place_text inside }
+{
+    if inside { "in 0" } else { "in none" }
 }
 
-impl fmt::Display for Place {
-    ghost output = { λ p. Some (place_text p.inside) };
-
-    fn fmt<W: fmt::Write>(&self, f: &mut fmt::Formatter<W>) -> fmt::Result {
-        f.write_str(if self.inside { "in 0" } else { "in none" })
-    }
-}
-
-// ` C=L` for a level that isn't 0.
+// ` C=L` for a level that isn't 0. (Tried: an `if` in the loop over all levels. The loop's proof doesn't close.)
 #[derive(Clone, Copy)]
 struct LevelAt {
     channel: usize,
@@ -63,9 +56,7 @@ impl fmt::Display for Show {
 
     #[tactic(auto, unfolding(crate::specs::Texts::show_text))]
     fn fmt<W: fmt::Write>(&self, f: &mut fmt::Formatter<W>) -> fmt::Result {
-        let place = Place {
-            inside: self.stage.is_inside(),
-        };
+        let place = place(self.stage.is_inside());
         let done = self.stage.done();
         write!(f, "desk {}: {place}, done {}", self.desk, done.count)?;
         writeln!(

@@ -50,16 +50,10 @@ fn desks<'a>(show: &mut Option<Show>, desks: &[u64], heap: Global) -> Result<Ans
 }
 
 // The first of some desks that isn't the one in the show.
-#[tactic(auto, using(std::proofs::lemmas::Grind::common_steps))]
 fn first_other(desk: u64, desks: &[u64]) -> Option<u64>
     ensures { result ≡ first_other desk desks.now }
 {
-    for d in desks {
-        if *d != desk {
-            return Some(*d);
-        }
-    }
-    None
+    desks.iter().copied().find(|d| *d != desk)
 }
 
 impl Show {

@@ -1,5 +1,5 @@
 -- One member alone: what it has issued and not yet delivered, and what its memory stands for.
-use Rattle.std.specs.Prelude.{◌≡◌, ℕ, ◌+◌, ◌<◌, ◌≤◌, Bool, true, false, cond, List, [], ◌∷◌, ◌++◌, Some, None, Ok, Err, vec_items, vec_len, Option, Result, ◌==◌, nat_le, slice_index, is_some}
+use Rattle.std.specs.Prelude.{◌≡◌, ℕ, ◌+◌, ◌<◌, ◌≤◌, Bool, true, false, cond, List, [], ◌∷◌, ◌++◌, Some, Ok, Err, vec_items, vec_len, Result, ◌==◌, nat_le, slice_index, is_some}
 use Rattle.std.specs.Option.{unwrap_or}
 use Rattle.commands.specs.declared.types.Action.{Action}
 use Rattle.commands.specs.declared.types.Command.{Command}

@@ -90,7 +90,7 @@ impl Stage {
     pub fn enter(&mut self)
         ensures { self.new ≡ entered self.old }
     {
-        self.issued = Some(self.issued.unwrap_or(0));
+        self.issued.get_or_insert(0);
     }
 
     // One command more, which waits; or a refusal, which leaves all as it was.

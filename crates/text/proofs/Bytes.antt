@@ -3,14 +3,12 @@ use Rattle.std.proofs.Common.{◌≡◌, ◌≢◌, ℕ, zero, suc, ◌+◌, ◌
 use Rattle.std.proofs.lemmas.List.{at_drop_more, at_drop_all, take_more, drop_more, take_rest, length-take-le, length-drop, get_or-drop}
 use Rattle.std.proofs.lemmas.Bool.{cond-true, cond-false, ne_eqb, eq-eqb, both_ways, cases_lt}
 use Rattle.std.proofs.Math.Bool.{and-true}
+use Rattle.std.proofs.Math.Numerals.{suc-eq-add-one}
 use Rattle.std.specs.Borrow.{Bor}
 use Rattle.std.specs.List.{AllWithin, slice_index}
 use Rattle.std.specs.Option.{MatchOption, unwrap_or}
 use lib.Pointwise.{pointwise}
 use Rattle.text.specs.Line.{blank, ended, words, words_after, before_comment, without_return}
-
-next_place : (i : ℕ) → suc i ≡ i + 1
-next_place i = omega arith
 
 words_blank : (b : ℕ) (bs : List ℕ) → blank b ≡ true → words (b ∷ bs) ≡ words bs
 unfolding words words_after
@@ -25,7 +23,7 @@ blanks_more s i h e = sym (at_drop_more words s i 0 h ∙ words_blank _ _ e)
 
 pub blanks_skipped : (s : List ℕ) (i : ℕ) → i ≤ length s → AllWithin (λ b. blank b ≡ true) s 0 i → words (drop i s) ≡ words s
 blanks_skipped s zero h each = refl
-blanks_skipped s (suc i) h each = ap (λ n. words (drop n s)) (next_place i) ∙ blanks_more s i (omega arith) (each i 0 (omega arith) (omega arith)) ∙ blanks_skipped s i (omega arith) (λ k d low high. each k d low (omega arith))
+blanks_skipped s (suc i) h each = ap (λ n. words (drop n s)) (suc-eq-add-one i) ∙ blanks_more s i (omega arith) (each i 0 (omega arith) (omega arith)) ∙ blanks_skipped s i (omega arith) (λ k d low high. each k d low (omega arith))
 
 -- a byte that is no blank goes to the word that is begun
 after_solid : (w : List ℕ) (b : ℕ) (bs : List ℕ) → blank b ≡ false → words_after w (b ∷ bs) ≡ words_after (w ++ b ∷ []) bs
@@ -57,7 +55,7 @@ after_all s i h = at_drop_all (words_after (take i s)) s i h ∙ after_end (take
 
 after_solids : (s : List ℕ) (i : ℕ) → i ≤ length s → AllWithin (λ b. blank b ≡ false) s 0 i → words_after (take i s) (drop i s) ≡ words s
 after_solids s zero h each = after_none s
-after_solids s (suc i) h each = ap (λ n. words_after (take n s) (drop n s)) (next_place i) ∙ after_more s i (omega arith) (each i 0 (omega arith) (omega arith)) ∙ after_solids s i (omega arith) (λ k d low high. each k d low (omega arith))
+after_solids s (suc i) h each = ap (λ n. words_after (take n s) (drop n s)) (suc-eq-add-one i) ∙ after_more s i (omega arith) (each i 0 (omega arith) (omega arith)) ∙ after_solids s i (omega arith) (λ k d low high. each k d low (omega arith))
 
 pub solid_splits : (s : List ℕ) (i : ℕ) → i ≤ length s → AllWithin (λ b. blank b ≡ false) s 0 i → (i < length s → blank (get_or s i 0) ≡ true) → words s ≡ ended (take i s) ++ words (drop i s)
 solid_splits s i h each stops = sym (after_solids s i h each) ∙ ⊎_elim (λ more. after_stops s i more (stops more)) (λ all. after_all s i all) (cases_lt i (length s))
@@ -82,7 +80,7 @@ comment_all s i h = ap (λ x. take i s ++ x) (at_drop_all before_comment s i h) 
 
 comment_kept : (s : List ℕ) (i : ℕ) → i ≤ length s → AllWithin (λ b. b ≢ 35) s 0 i → take i s ++ before_comment (drop i s) ≡ before_comment s
 comment_kept s zero h each = refl
-comment_kept s (suc i) h each = ap (λ n. take n s ++ before_comment (drop n s)) (next_place i) ∙ comment_more s i (omega arith) (each i 0 (omega arith) (omega arith)) ∙ comment_kept s i (omega arith) (λ k d low high. each k d low (omega arith))
+comment_kept s (suc i) h each = ap (λ n. take n s ++ before_comment (drop n s)) (suc-eq-add-one i) ∙ comment_more s i (omega arith) (each i 0 (omega arith) (omega arith)) ∙ comment_kept s i (omega arith) (λ k d low high. each k d low (omega arith))
 
 pub comment_cut : (s : List ℕ) (i : ℕ) → i ≤ length s → AllWithin (λ b. b ≢ 35) s 0 i → (i < length s → get_or s i 0 ≡ 35) → take i s ≡ before_comment s
 comment_cut s i h each stops = sym (⊎_elim (λ more. comment_stops s i more (stops more)) (λ all. comment_all s i all) (cases_lt i (length s))) ∙ comment_kept s i h each

@@ -1,6 +1,7 @@
 -- One digit more of a number. Assumes nothing.
-use Rattle.std.proofs.Common.{◌≡◌, ℕ, ◌+◌, ◌-◌, ◌*◌, ◌^◌, ◌<◌, ◌≤◌, Bool, true, false, ◌&&◌, ltb, List, [], ◌∷◌, length, get_or, drop, pos, neg_ℤ, Some, None, Option, Ok, Err, Result, FitsSigned, w32, ℤ, sym, refl, ap, ◌∙◌, arith}
+use Rattle.std.proofs.Common.{◌≡◌, ℕ, ◌+◌, ◌-◌, ◌*◌, ◌^◌, ◌<◌, ◌≤◌, Bool, true, false, ltb, List, [], ◌∷◌, length, get_or, drop, pos, neg_ℤ, Some, None, Option, Ok, Err, Result, FitsSigned, w32, ℤ, sym, refl, ap, ◌∙◌, arith}
 use Rattle.std.specs.Result.{OkIff, result_ok}
+use Rattle.std.proofs.Math.Bool.{and-false}
 use Rattle.std.proofs.lemmas.Int.{ints}
 use Rattle.std.proofs.lemmas.List.{at_drop_more, at_drop_all}
 use Rattle.std.proofs.lemmas.Bool.{lt-ltb, le-ltb, ltb-false, eq-eqb, ne_eqb}
@@ -16,10 +17,6 @@ abbrev pub next : Option ℕ → List ℕ → Option ℕ
 next None bs = None
 next (Some m) bs = read_after m bs
 
-and_no : (x : Bool) → (x && false) ≡ false
-and_no true = refl
-and_no false = refl
-
 read_step : (n b : ℕ) (bs : List ℕ) → read_after n (b ∷ bs) ≡ next (appended n b) bs
 unfolding read_after all_digits value_after appended
 read_step n b bs = by (digit b) (ltb (10 * n + (b - 48)) (2 ^ 64)) refl refl
@@ -29,7 +26,7 @@ read_step n b bs = by (digit b) (ltb (10 * n + (b - 48)) (2 ^ 64)) refl refl
     by true true e f = rw (e, f)
     by true false e f =
         let big : ltb (value_after (10 * n + (b - 48)) bs) (2 ^ 64) ≡ false = le-ltb _ _ (omega (arith, ltb-false _ _ f, value_ge (10 * n + (b - 48)) bs)) in
-        rw (e, f, big, and_no (all_digits bs))
+        rw (e, f, big, and-false (all_digits bs))
 
 pub read_none : (s : List ℕ) → length s ≡ 0 → None ≡ number_of s
 unfolding number_of
@@ -51,6 +48,17 @@ pub read_all : (n : ℕ) (s : List ℕ) (i : ℕ) → length s ≤ i → n < 2 ^
 unfolding read_after all_digits value_after
 read_all n s i h fits = at_drop_all (read_after n) s i h ∙ rw (lt-ltb _ _ fits)
 
+-- a size, as a number with a sign that the conversion to 32 bits takes or refuses
+raised_is : {E : Type 0} (n : ℕ) (z : ℤ) (r : Result ℤ E) → z ≡ pos n → OkIff r (FitsSigned w32 z) z → result_ok r ≡ raised (Some n)
+unfolding raised
+raised_is n z (Ok x) e is = grind (arith, ints, nat_tests)
+raised_is n z (Err f) e is = grind (arith, ints, nat_tests)
+
+lowered_is : {E : Type 0} (n : ℕ) (z : ℤ) (r : Result ℤ E) → z ≡ neg_ℤ (pos n) → OkIff r (FitsSigned w32 z) z → result_ok r ≡ lowered (Some n)
+unfolding lowered
+lowered_is n z (Ok x) e is = grind (arith, ints, nat_tests)
+lowered_is n z (Err f) e is = grind (arith, ints, nat_tests)
+
 -- a step, by its first byte
 pub step_none : (s : List ℕ) → length s ≡ 0 → None ≡ step_of s
 unfolding step_of
@@ -58,25 +66,36 @@ step_none [] e = refl
 step_none (b ∷ s) e = absurd (omega arith)
 
 module _ (s : List ℕ) (b : ℕ) (bs : List ℕ) (e : s ≡ b ∷ bs) where
-  pub step_minus : b ≡ 45 → lowered (number_of bs) ≡ step_of s
+  minus : b ≡ 45 → lowered (number_of bs) ≡ step_of s
   unfolding step_of
-  step_minus m = rw (e, eq-eqb _ 45 m)
+  minus m = rw (e, eq-eqb _ 45 m)
 
-  pub step_plus : (b ≡ 45 → ⊥) → b ≡ 43 → raised (number_of bs) ≡ step_of s
+  plus : (b ≡ 45 → ⊥) → b ≡ 43 → raised (number_of bs) ≡ step_of s
   unfolding step_of
-  step_plus other m = rw (e, ne_eqb _ 45 other, eq-eqb _ 43 m)
+  plus other m = rw (e, ne_eqb _ 45 other, eq-eqb _ 43 m)
 
-  pub step_plain : (b ≡ 45 → ⊥) → (b ≡ 43 → ⊥) → raised (number_of s) ≡ step_of s
+  plain : (b ≡ 45 → ⊥) → (b ≡ 43 → ⊥) → raised (number_of s) ≡ step_of s
   unfolding step_of
-  step_plain other none = rw (e, ne_eqb _ 45 other, ne_eqb _ 43 none)
+  plain other none = rw (e, ne_eqb _ 45 other, ne_eqb _ 43 none)
 
--- a size, as a number with a sign, after what the conversions say
-pub raised_is : {E : Type 0} (n : ℕ) (r : Result ℤ E) → OkIff r (FitsSigned w32 (pos n)) (pos n) → result_ok r ≡ raised (Some n)
-unfolding raised
-raised_is n (Ok x) is = grind (arith, ints, nat_tests)
-raised_is n (Err e) is = grind (arith, ints, nat_tests)
+  pub no_minus : b ≡ 45 → number_of bs ≡ None → None ≡ step_of s
+  unfolding lowered
+  no_minus m none = ap lowered (sym none) ∙ minus m
 
-pub lowered_is : {E : Type 0} (n : ℕ) (z : ℤ) (r : Result ℤ E) → z ≡ neg_ℤ (pos n) → OkIff r (FitsSigned w32 z) z → result_ok r ≡ lowered (Some n)
-unfolding lowered
-lowered_is n z (Ok x) e is = grind (arith, ints, nat_tests)
-lowered_is n z (Err f) e is = grind (arith, ints, nat_tests)
+  pub no_plus : (b ≡ 45 → ⊥) → b ≡ 43 → number_of bs ≡ None → None ≡ step_of s
+  unfolding raised
+  no_plus other m none = ap raised (sym none) ∙ plus other m
+
+  pub no_plain : (b ≡ 45 → ⊥) → (b ≡ 43 → ⊥) → number_of s ≡ None → None ≡ step_of s
+  unfolding raised
+  no_plain other last none = ap raised (sym none) ∙ plain other last
+
+  module _ {E : Type 0} (n : ℕ) (z : ℤ) (r : Result ℤ E) (is : OkIff r (FitsSigned w32 z) z) where
+    pub step_minus : b ≡ 45 → number_of bs ≡ Some n → z ≡ neg_ℤ (pos n) → result_ok r ≡ step_of s
+    step_minus m some f = lowered_is n z r f is ∙ ap lowered (sym some) ∙ minus m
+
+    pub step_plus : (b ≡ 45 → ⊥) → b ≡ 43 → number_of bs ≡ Some n → z ≡ pos n → result_ok r ≡ step_of s
+    step_plus other m some f = raised_is n z r f is ∙ ap raised (sym some) ∙ plus other m
+
+    pub step_plain : (b ≡ 45 → ⊥) → (b ≡ 43 → ⊥) → number_of s ≡ Some n → z ≡ pos n → result_ok r ≡ step_of s
+    step_plain other last some f = raised_is n z r f is ∙ ap raised (sym some) ∙ plain other last

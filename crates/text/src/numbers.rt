@@ -1,8 +1,8 @@
 // Decimal numbers.
 ghost use Rattle.std.specs.Prelude.{◌≡◌, ℕ, List, Option};
-ghost use Rattle.text.specs.Numeral.{appended, number_of, raised, lowered, step_of};
+ghost use Rattle.text.specs.Numeral.{appended, number_of, step_of};
 
-// A value that a word writes.
+// A value that a word writes. Not std's `FromStr`: it takes a `+` before a number, and neither it nor the types are ours.
 pub trait FromWord: Sized {
     // The value that the bytes of a word write, if they write one.
     ghost word_gives: { List ℕ → Option Self };
@@ -43,28 +43,14 @@ fn with_digit(n: u64, b: u8) -> Option<u64>
 impl FromWord for i32 {
     ghost word_gives = { step_of };
 
-    #[tactic(auto, using(crate::proofs::Decimal::step_none, crate::proofs::Decimal::step_minus, crate::proofs::Decimal::step_plus, crate::proofs::Decimal::step_plain))]
+    #[tactic(auto, using(crate::proofs::Decimal::step_none, crate::proofs::Decimal::no_minus, crate::proofs::Decimal::no_plus, crate::proofs::Decimal::no_plain))]
     fn from_word(word: &[u8]) -> Option<i32> {
         let (first, digits) = word.split_first()?;
-        match first {
-            b'-' => down(u64::from_word(digits)),
-            b'+' => up(u64::from_word(digits)),
-            _ => up(u64::from_word(word)),
-        }
+        let step = match first {
+            b'-' => -i128::from(u64::from_word(digits)?),
+            b'+' => i128::from(u64::from_word(digits)?),
+            _ => i128::from(u64::from_word(word)?),
+        };
+        i32::try_from(step).ok()
     }
-}
-
-#[tactic(auto, using(crate::proofs::Decimal::raised_is), unfolding(crate::specs::Numeral::raised))]
-// Two functions, since a step downward reaches one further than one upward.
-fn up(size: Option<u64>) -> Option<i32>
-    ensures { result ≡ raised size }
-{
-    i32::try_from(size?).ok()
-}
-
-#[tactic(auto, using(crate::proofs::Decimal::lowered_is), unfolding(crate::specs::Numeral::lowered))]
-fn down(size: Option<u64>) -> Option<i32>
-    ensures { result ≡ lowered size }
-{
-    i32::try_from(-i128::from(size?)).ok()
 }

@@ -51,7 +51,7 @@ fn without_return(line: &[u8]) -> &[u8]
     line.strip_suffix(b"\r").unwrap_or(line)
 }
 
-// How many bytes stand before the first `#`.
+// How many bytes stand before the first `#`. This, `blanks` and `solid` are one call each, and their clauses are their own, so one function for all three is no plainer.
 #[tactic(auto, using(crate::proofs::Bytes::comment_cut))]
 fn before_comment(bytes: &[u8]) -> usize
     ensures within { result ≤ length bytes.now }

@@ -1,20 +1,26 @@
-use Rattle.std.proofs.Common.{◌≡◌, ℕ, ap, ◌∙◌, take, drop, replicate, ◌++◌, sym, arith, rules}
+use Rattle.std.proofs.Common.{◌≡◌, ℕ, ap, ◌∙◌, take, drop, replicate, ◌++◌, sym, ◌≤◌, length, arith, rules}
 use Rattle.std.proofs.lemmas.List.{length-take-le}
-use Rattle.commands.specs.Bytes.{size_as, list_at}
+use Rattle.commands.specs.Bytes.{size_as, at2, list_at}
 use Rattle.commands.specs.Kind.{code_of}
 use Rattle.commands.proofs.Judged.{count_is}
 use Rattle.commands.proofs.Numbers.{levels_padded, number_at1, number_at2, number_at4}
 use Rattle.commands.proofs.reader.Reader.take_action.Goals as goal
+use Rattle.commands.proofs.reader.Reader.take_action.Goals.{After-from_be_bytes-channel}
+
+-- the channel is the number at 14, and the bytes behind it begin at 16
+channel_there : (c : goal.After-from_be_bytes-channel) → 16 ≤ length c.args.self.now.bytes.now → (c.from_be_bytes-channel.result ≡ at2 c.args.self.now.bytes.now 14) × (c.take.new.self.at ≡ 16)
+channel_there c h =
+    let b = c.args.self.now.bytes.now in
+    let place = c.requires.place in
+    let next = c.take.ensures.place in
+    (number_at2 b 14 h c.from_be_bytes-channel.ensures (c.take.ensures.value ∙ ap (λ n. take 2 (drop n b)) place), omega arith)
 
 pub returns-in-Move : goal.returns-in-Move
 returns-in-Move c =
     let b = c.args.self.now.bytes.now in
-    let place = c.requires.place in
     let size = ap (λ k. size_as (code_of k) b) c.in-Move.is in
-    let channel = number_at2 b 14 (omega arith) c.from_be_bytes-channel.ensures (c.take.ensures.value ∙ ap (λ n. take 2 (drop n b)) place) in
     let same = c.take.ensures.bytes in
-    let next = c.take.ensures.place in
-    let at : c.take.new.self.at ≡ 16 = omega arith in
+    let (channel, at) = channel_there (goal.at.returns-in-Move c).After-from_be_bytes-channel (omega arith) in
     let chunk : c.take-in-Move.result ≡ take 4 (drop 16 b) = cc c.take-in-Move.ensures.value in
     let step = number_at4 b 16 (omega arith) c.from_be_bytes-in-Move.ensures chunk in
     let l = c.lower.ensures in
@@ -24,12 +30,9 @@ returns-in-Move c =
 pub returns-in_ok-count-in-Scene : goal.returns-in_ok-count-in-Scene
 returns-in_ok-count-in-Scene c =
     let b = c.args.self.now.bytes.now in
-    let place = c.requires.place in
     let size = ap (λ k. size_as (code_of k) b) c.in-Scene.is in
-    let channel = number_at2 b 14 (omega arith) c.from_be_bytes-channel.ensures (c.take.ensures.value ∙ ap (λ n. take 2 (drop n b)) place) in
     let same = c.take.ensures.bytes in
-    let next = c.take.ensures.place in
-    let at : c.take.new.self.at ≡ 16 = omega arith in
+    let (channel, at) = channel_there (goal.at.returns-in_ok-count-in-Scene c).After-from_be_bytes-channel (omega arith) in
     let chunk : c.take-in-Scene.result ≡ take 1 (drop 16 b) = cc c.take-in-Scene.ensures.value in
     let count = number_at1 b 16 chunk in
     let other = c.take-in-Scene.ensures.bytes in
