@@ -30,6 +30,7 @@ fn action_of(asked: &asked::Action) -> Result<Action, Refusal>
 }
 
 // One desk comes into the show, in no circle.
+// (Show and heap go together from here to `play_line`, but the program holds them apart: a struct would only name the pair.)
 fn desks<'a>(show: &mut Option<Show>, desks: &[u64], heap: Global) -> Result<Answer, PlayError<'a>>
     ensures { DesksGiven show.old desks.now show.new result }
 {
