@@ -19,7 +19,7 @@ const USAGE: &str = "usage: bench [sha MEBIBYTES | history COMMANDS]";
 fn commands_made(heap: Global, count: u32) -> anyhow::Result<Vec<Command>> {
     let mut draws = Draws::new();
     let mut made = Vec::new(heap);
-    // the turn makes the command; nothing is indexed by it
+    // the turn makes the command, and nothing is indexed by it; a `map` would carry two errors through a `collect`, and be no plainer
     for turn in 0..count {
         made.push(command(turn, &mut draws)?)?;
     }

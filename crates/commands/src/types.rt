@@ -18,7 +18,7 @@ pub struct Channel {
 }
 
 // Levels for the channels from `first` on: as many as `count` says, 1 to 32. Those past the count are 0, so that one value has one form.
-// An array and a count: with an `ArrayVec`, which is not `Copy`, a command, public and `Copy`, would no longer be.
+// An array and a count: a command is a fixed value with no heap that is copied freely, and an `ArrayVec` is not `Copy`.
 #[derive(Clone, Copy)]
 pub struct Scene {
     pub(crate) first: Channel,
@@ -218,7 +218,7 @@ impl Action {
         ensures { result ≡ scene_or first levels.now }
     {
         let first = Channel::try_from(first)?;
-        // `as`, since no `From` makes a `u64` of a `usize`
+        // `as`, since no `From` makes a `u64` of a `usize`, and a `try_from` that is then unwrapped would be no plainer
         let count = count_of(levels.len() as u64)?;
         let levels = places_of(levels)?;
         Ok(Action::Scene(Scene {

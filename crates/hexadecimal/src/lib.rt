@@ -22,7 +22,7 @@ pub enum HexError {
     Memory(AllocError),
 }
 
-// By hand, since a contract names the error that `?` makes, and a derive states none.
+// For who allocates beside `unhex`; by hand, as the next, since a contract names the error that `?` makes, and a derive states none.
 impl From<AllocError> for HexError {
     ghost from_gives = { λ e r. r ≡ Memory e };
 

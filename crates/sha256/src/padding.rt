@@ -13,7 +13,7 @@ fn zeros(n: usize) -> usize
     if n <= 55 { 55 - n } else { 119 - n }
 }
 
-// The length of a message of `total` bytes, in bits, as the padding ends with it. (A cast, since `u64` has no `From<usize>`; nothing is lost.)
+// The length of a message of `total` bytes, in bits, as the padding ends with it. (A cast, since `u64` has no `From<usize>`, and a `try_from` that is then unwrapped would be no plainer.)
 fn length_bytes(total: usize) -> [u8; 8]
     ensures { result ≡ long_bytes ((total * 8) % 2 ^ 64) }
 {

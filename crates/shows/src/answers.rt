@@ -69,7 +69,7 @@ impl<'a> fmt::Display for Refused<'a> {
     }
 }
 
-// Why a line has no answer: it is refused, or memory was wanting. (Each crate has an enum of its own of this form, since the `From` of a generic one for any
+// Why a line has no answer: it is refused, or memory was wanting. (`reading` and `stage` have enums of this form too, since the `From` of a generic one for any
 // refusal would overlap with that for memory.)
 #[derive(Clone, Copy)]
 pub enum PlayError<'a> {

@@ -6,7 +6,7 @@ use crate::show::Show;
 use hexadecimal::Hex;
 use std::fmt;
 
-// Where a desk stands: in circle 0 or in none.
+// Where a desk stands: in circle 0 or in none. (A plain yes or no, with nothing beside it.)
 fn place(inside: bool) -> &'static str
     ensures { result.now ≡ place_text inside }
 {

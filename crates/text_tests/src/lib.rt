@@ -16,6 +16,9 @@ mod tests {
             ("", ""),
             ("f", "66"),
             ("fo", "666F"),
+            ("foo", "666F6F"),
+            ("foob", "666F6F62"),
+            ("fooba", "666F6F6261"),
             ("foobar", "666F6F626172"),
         ];
         for (bytes, digits) in vectors {
