@@ -191,7 +191,7 @@ fn places_of(levels: &[u64]) -> Result<[u16; 32], Refusal>
     ensures { result ≡ unless_high (first_high levels.now) (padded levels.now) }
 {
     let mut places = [0; 32];
-    // by index (tried: of places that `iter_mut` lends to a `zip`, a proof knows only how many there are)
+    // by index: of places that `iter_mut` lends to a `zip`, a proof knows only how many there are (that form was tried in `sha256`'s schedule)
     for (k, level) in levels.iter().enumerate() {
         places[k] = level_of(*level)?;
     }

@@ -82,7 +82,7 @@ impl State {
     }
 
     // Eight rounds. A round moves six of the eight words one place on, and after eight each is back in its place: so clang's unrolled eight
-    // move nothing. (Tried: one fold over all 64 rounds. The whole hash took a fifth longer, and a million commands then miss their bar, 0.9 of plain Rust.)
+    // move nothing. (Tried: one fold over all 64 rounds. The whole hash took a fifth longer; by that a million commands, at 0.95 of plain Rust, would fall below their bar of 0.9.)
     fn eight_rounds(self, k: &[u32; 8], w: &[u32; 8]) -> State
         ensures { result ≡ fold keyed_round self (zip k.now w.now) }
     {

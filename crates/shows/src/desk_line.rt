@@ -13,7 +13,7 @@ fn place(inside: bool) -> &'static str
     if inside { "in 0" } else { "in none" }
 }
 
-// ` C=L` for a level that isn't 0. (Tried: an `if` in the loop over all levels. The loop's proof doesn't close.)
+// ` C=L` for a level that isn't 0. (A type of its own, so that its text is stated by itself and the loop only joins texts; an `if` in the loop would be no plainer to prove.)
 #[derive(Clone, Copy)]
 struct LevelAt {
     channel: usize,
