@@ -6,12 +6,11 @@ mod work;
 use anyhow::bail;
 use commands::types::Command;
 use hexadecimal::Hex;
-use history::Record;
 use sha256::digest;
 use std::alloc::Global;
 use std::env;
 use std::time::Instant;
-use work::{Draws, checksum, command};
+use work::{Draws, checksum, command, deliver_all};
 
 const USAGE: &str = "usage: bench [sha MEBIBYTES | history COMMANDS]";
 
@@ -42,7 +41,7 @@ fn deliver(rt: &HostRuntime, count: u32) -> anyhow::Result<u128> {
     let commands = commands_made(rt.alloc(), count)?;
     let mut levels = [0; 512];
     let start = Instant::now(rt)?;
-    let record = Record::new().deliver_all(&mut levels, &commands);
+    let record = deliver_all(&mut levels, &commands);
     let nanoseconds = start.elapsed(rt)?.as_nanos();
     let delivered = record.count;
     let sum = checksum(&levels);

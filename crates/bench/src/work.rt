@@ -1,9 +1,11 @@
 // The commands of a run, made by a simple rule, and what is measured over them.
 ghost use Rattle.std.specs.Prelude.{◌≡◌, ◌+◌, ◌/◌, ◌^◌, ◌<◌, ◌≤◌, [], map, pos, ◌-ℤ◌};
+ghost use Rattle.history.specs.History.{deliveries, levels_of, record_of};
 ghost use Rattle.bench.specs.Work.{next_of, steps_on, draws_from, scene_from, action_from, command_from, checksum_of};
 
 use arrayvec::ArrayVec;
 use commands::types::{Action, Command, MemberId, Refusal};
+use history::Record;
 
 // Numbers that look random, the same in every run.
 #[derive(Drop)]
@@ -78,6 +80,13 @@ pub(crate) fn command(turn: u32, draws: &mut Draws) -> Result<Command, Refusal>
     let member = MemberId::try_from(u64::from(turn % 8))?;
     let action = action(turn, draws)?;
     Command::new(0, member, turn / 8 + 1, turn + 1, action)
+}
+
+// All the commands delivered, one after another, from an empty history on.
+pub(crate) fn deliver_all(levels: &mut [u16], commands: &[Command]) -> Record
+    ensures { levels.old ≡ levels_of [] → (result ≡ record_of (deliveries commands.now)) × (levels.new ≡ levels_of (deliveries commands.now)) }
+{
+    Record::new().deliver_all(levels, commands)
 }
 
 // One number that most changes of the levels change.

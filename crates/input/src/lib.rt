@@ -1,7 +1,7 @@
 // The lines of a stream.
 #![tactic(auto)]
 
-ghost use Rattle.std.specs.Prelude.{◌≡◌, ◌==◌, ◌≢◌, ◌<◌, ◌≤◌, ◌-◌, ◌++◌, ℕ, List, All, length, take, OnOk, IfOk, IfSome, MatchOption, MatchBool};
+ghost use Rattle.std.specs.Prelude.{◌≡◌, ◌==◌, ◌≢◌, ◌<◌, ◌≤◌, ◌-◌, ◌++◌, ℕ, List, All, length, take, slice_index, OnOk, IfOk, IfSome, MatchOption, MatchBool};
 ghost use Rattle.std.specs.Borrow.{sem};
 ghost use Rattle.std.specs.Io.{StopsAt};
 ghost use Rattle.std.specs.Io.BufRead.{strip_last, DropsThrough, Rests};
@@ -33,7 +33,8 @@ impl<R: BufRead> Lines<R> {
         }
     }
 
-    // The next line without its end, as far as it is kept; `None` at the end of the stream.
+    // The next line without its end, as far as it is kept; `None` at the end of the stream. Where reading fails, what was read of the line is lost, and the next
+    // call begins where the stream then stands.
     #[tactic(auto, using(crate::proofs::Kept::stripped_line, crate::proofs::Kept::next_known))]
     pub fn next_line(&mut self) -> io::Result<Option<&[u8]>>
         ensures short { IfOk result (λ o. IfSome o (λ line. length line.now ≤ most)) }
@@ -84,6 +85,7 @@ fn through_end(held: &[u8]) -> usize
     ensures within { result ≤ length held.now }
     ensures some { 0 < length held.now → 0 < result }
     ensures before { All (λ b. b ≢ 10) (take (result - 1) held.now) }
+    ensures ends { result < length held.now → slice_index held.now (result - 1) ≡ 10 }
 {
     held.iter()
         .position(|b| *b == b'\n')

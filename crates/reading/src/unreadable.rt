@@ -1,12 +1,13 @@
 // Why a line cannot be read.
-ghost use Rattle.std.specs.Prelude.{◌≡◌, Some};
+ghost use Rattle.std.specs.Prelude.{◌≡◌, ◌≤◌, ◌++◌, length, Some, is_ok, if◌then◌else◌};
 ghost use Rattle.std.specs.Allocator.{alloc_error};
+ghost use Rattle.std.specs.Fmt.{WritesOnOk};
 ghost use Rattle.reading.specs.Shown.{shown, printable, text_of};
 ghost use Rattle.reading.specs.Meaning.{why_of};
 ghost use Rattle.reading.specs.declared.unreadable.ReadError.TheVariants.{Unreadable, Memory};
 
 use std::alloc::{AllocError, AllocFailed};
-use std::fmt;
+use std::{fmt, str};
 use thiserror::Error;
 
 // The word is the one that stood there.
@@ -19,6 +20,16 @@ pub enum Reason<'a> {
     TooManyWords,
     OddHexadecimal,
     NoHexadecimal(&'a [u8]),
+}
+
+impl<'a> Reason<'a> {
+    // Appends the reason as plain text. Where memory fails, `out` is as it was.
+    pub fn write(self, out: &mut Vec<u8>) -> Result<(), AllocError>
+        ensures { out.new.items ≡ (if is_ok result then out.old.items ++ text_of (why_of self.entry) else out.old.items) }
+    {
+        let text = self.to_string(*out.allocator())?;
+        out.extend_from_slice(text.as_bytes())
+    }
 }
 
 impl<'a> fmt::Display for Reason<'a> {
@@ -42,24 +53,41 @@ impl<'a> fmt::Display for Reason<'a> {
 #[derive(Clone, Copy)]
 struct Printable<'a>(&'a [u8]);
 
+// How many bytes of a word are written at a time: a call of a writer takes as long as a good many bytes.
+const PART: usize = 64;
+
 impl<'a> fmt::Display for Printable<'a> {
     ghost output = { λ w. Some (printable w.0.now) };
 
-    #[tactic(auto, unfolding(crate::specs::Shown::printable))]
     fn fmt<W: fmt::Write>(&self, f: &mut fmt::Formatter<W>) -> fmt::Result {
-        for b in self.0 {
-            f.write_char(shown(*b))?;
+        for part in self.0.chunks(PART) {
+            write_shown(part, f)?;
         }
         Ok(())
     }
 }
 
-fn shown(b: u8) -> char
+// Writes a part of a word, as it is shown.
+#[tactic(auto, unfolding(crate::specs::Shown::printable))]
+fn write_shown<W: fmt::Write>(part: &[u8], f: &mut fmt::Formatter<W>) -> fmt::Result
+    requires { length part.now ≤ PART }
+    ensures { WritesOnOk W.write_str_gives f.old result (printable part.now) f.new }
+{
+    let mut room = [0; PART];
+    let mut len = 0;
+    for b in part {
+        room[len] = shown(*b);
+        len += 1;
+    }
+    f.write_str(str::from_utf8(&room[..len]).unwrap())
+}
+
+fn shown(b: u8) -> u8
     ensures { result ≡ shown b }
 {
     match b {
-        b' '..=b'~' => char::from(b),
-        _ => '?',
+        b' '..=b'~' => b,
+        _ => b'?',
     }
 }
 

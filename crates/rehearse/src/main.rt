@@ -3,12 +3,13 @@
 
 use input::Lines;
 use shows::show::play_line;
-use std::io::{BufRead, BufReader};
+use std::io::{BufRead, BufReader, BufWriter, Write};
 use std::{env, fs};
 
 // A show from its first line to its last, from nothing.
 fn play<R: BufRead + Drop>(rt: &HostRuntime, from: R) -> anyhow::Result<()> {
     let heap = rt.alloc();
+    let mut to = BufWriter::new(heap, rt.stdout())?;
     let mut lines = Lines::new(heap, from);
     let mut show = None;
     for number in 1..u64::MAX {
@@ -16,7 +17,11 @@ fn play<R: BufRead + Drop>(rt: &HostRuntime, from: R) -> anyhow::Result<()> {
             break;
         };
         let reply = play_line(&mut show, number, text, heap)?;
-        print!(rt; "{reply}")?;
+        // one write for each answer, so that who reads through a pipe meets no half of one; `print!` would write a kibibyte at a time
+        if !reply.is_empty() {
+            to.write_all(reply.as_bytes())?;
+            to.flush()?;
+        }
     }
     Ok(())
 }

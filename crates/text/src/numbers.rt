@@ -1,6 +1,8 @@
 // Decimal numbers.
-ghost use Rattle.std.specs.Prelude.{◌≡◌, ℕ, List, Option};
+ghost use Rattle.std.specs.Prelude.{◌≡◌, ◌++◌, ℕ, List, Option, is_ok, if◌then◌else◌, decimal};
 ghost use Rattle.text.specs.Numeral.{appended, number_of, step_of};
+
+use std::alloc::{AllocError, Global};
 
 // A value that a word writes. Not std's `FromStr`: it takes a `+` before a number, and neither it nor the types are ours.
 pub trait FromWord: Sized {
@@ -53,4 +55,12 @@ impl FromWord for i32 {
         };
         i32::try_from(step).ok()
     }
+}
+
+// Appends `n` in decimal digits. Where memory fails, `out` is as it was, which no text that is printed into it would promise.
+pub fn push_number(out: &mut Vec<u8>, n: u64, heap: Global) -> Result<(), AllocError>
+    ensures { out.new.items ≡ (if is_ok result then out.old.items ++ decimal n else out.old.items) }
+{
+    let digits = n.to_string(heap)?;
+    out.extend_from_slice(digits.as_bytes())
 }

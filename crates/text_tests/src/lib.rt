@@ -3,11 +3,13 @@
 
 #[cfg(test)]
 mod tests {
-    use hexadecimal::{Hex, HexError, unhex};
+    use hexadecimal::{Hex, HexError, push_hex, unhex};
     use input::Lines;
+    use reading::unreadable::Reason;
     use std::io;
     use std::io::{BufRead, ErrorKind, Read};
     use std::test::Fail;
+    use text::numbers::push_number;
 
     // The vectors of RFC 4648 for base 16.
     #[test]
@@ -34,6 +36,25 @@ mod tests {
     fn hex_refusals(rt: HostRuntime) {
         assert!(rt; matches!(unhex(b"6g6", rt.alloc()), Err(HexError::Odd)));
         assert!(rt; matches!(unhex(b"6g", rt.alloc()), Err(HexError::NoDigit)));
+    }
+
+    // What is appended comes behind what is there, at each call. More bytes than are put into digits at a time, and a word longer than what is shown at a time.
+    #[test]
+    fn appended(rt: HostRuntime) -> Result<(), Fail> {
+        let mut out = vec![in rt.alloc(); b'>'; 1]?;
+        push_number(&mut out, 18446744073709551615, rt.alloc())?;
+        assert_eq!(rt; out.as_slice(), b">18446744073709551615".as_slice());
+        let mut digits = vec![in rt.alloc(); b'=']?;
+        push_hex(&mut digits, &[0xa5; 100])?;
+        assert!(rt; digits.starts_with(b"=a5a5"));
+        assert_eq!(rt; digits.len(), 201);
+        let mut word = vec![in rt.alloc(); b'x'; 100]?;
+        word.extend_from_slice(b"caf\xc3\xa9")?;
+        Reason::NoNumber(word.as_slice()).write(&mut out)?;
+        assert!(rt; out.starts_with(b">18446744073709551615no number 'xxx"));
+        assert!(rt; out.ends_with(b"xxxcaf??'"));
+        assert_eq!(rt; out.len(), 21 + 11 + 100 + 5 + 1);
+        Ok(())
     }
 
     #[test]
