@@ -1,5 +1,5 @@
 // The desks of a show, and what a line does to them.
-ghost use Rattle.std.specs.Prelude.{◌≡◌, IfOk, is_ok, if◌then◌else◌, string_bytes};
+ghost use Rattle.std.specs.Prelude.{◌≡◌, IfOk, IfSome, is_ok, if◌then◌else◌, string_bytes};
 ghost use Rattle.shows.specs.Shows.{action_or, first_other, circle_or, DesksGiven, entered, Called, OfDesk, SettledAs, Carried, CameTo, Played};
 
 use crate::answers::{Answer, PlayError, Refused, Why};
@@ -9,6 +9,7 @@ use requests::lines::read;
 use sha256::digest;
 use stage::Stage;
 use std::alloc::{AllocError, Global};
+use std::fmt;
 use text::LONGEST;
 
 // The one desk that plays, by its number.
@@ -157,6 +158,18 @@ fn come_to<'a>(
     carry_out(show, &read(text, heap)?, heap)
 }
 
+// How much room a reply is given to begin with: enough for most, so that it is not moved at each piece of its text.
+const COMMON: usize = 128;
+
+// What a value prints, as a text.
+fn printed<D: fmt::Display + Drop>(value: D, heap: Global) -> Result<String, AllocError>
+    ensures { IfOk result (λ text. IfSome (D.output value) (λ bytes. string_bytes text ≡ bytes)) }
+{
+    let mut text = String::with_capacity(heap, COMMON)?;
+    text.write(value)?;
+    Ok(text)
+}
+
 // Plays line number `line` of a show: does what its text asks, and says what is answered.
 pub fn play_line(
     show: &mut Option<Show>,
@@ -167,8 +180,9 @@ pub fn play_line(
     ensures { IfOk result (λ reply. Played line text.now show.old show.new (string_bytes reply)) }
 {
     match come_to(show, text, heap) {
-        Ok(answer) => answer.to_string(heap),
-        Err(PlayError::Refused(refused)) => format!(in heap; "line {line}: {refused}\n"),
+        Ok(Answer::Nothing) => Ok(String::new(heap)),
+        Ok(answer) => printed(answer, heap),
+        Err(PlayError::Refused(refused)) => printed(format_args!("line {line}: {refused}\n"), heap),
         Err(PlayError::Memory(error)) => Err(error),
     }
 }
