@@ -1,9 +1,9 @@
 -- The text of answers.
-use Rattle.std.specs.Prelude.{ℕ, zero, suc, Bool, true, false, cond, List, [], ◌++◌, string_bytes, codes, decimal, ◌==◌, slice_index}
+use Rattle.std.specs.Prelude.{ℕ, zero, suc, Bool, true, false, cond, List, [], ◌++◌, string_bytes, codes, decimal, ◌==◌, slice_index, unwrap_or}
 use Rattle.commands.specs.Values.{row}
 use Rattle.hexadecimal.specs.Hex.{hex_of}
 use Rattle.reading.specs.Meaning.{why_of}
-use Rattle.reading.specs.Shown.{text_of}
+use Rattle.reading.specs.Shown.{text_of, word_of}
 use Rattle.stage.specs.Stage.{is_inside, number_of}
 use Rattle.history.specs.declared.Record.{Record}
 use Rattle.shows.specs.declared.show.Show.{Show}
@@ -39,6 +39,15 @@ refused_text (Value e) = turned_away (row e).0
 refused_text (Issue e) = turned_away (number_of e)
 refused_text (NotInShow d) = around (codes "desk ") d (codes " is not in this show")
 refused_text (Cannot w) = codes "? " ++ why_text w
+
+-- the word that a refusal tells, or no bytes
+abbrev pub word_told : Refused → List ℕ
+word_told TooLong = []
+word_told (Unreadable r) = unwrap_or (word_of (why_of r)) []
+word_told (Value e) = []
+word_told (Issue e) = []
+word_told (NotInShow d) = []
+word_told (Cannot w) = []
 
 -- what is printed for line n where it is refused
 abbrev pub refusal_text : ℕ → Refused → List ℕ

@@ -1,7 +1,7 @@
 // What a line of a show comes to: an answer, or why there is none.
 ghost use Rattle.std.specs.Prelude.{◌≡◌, Some};
 ghost use Rattle.shows.specs.Failures.{issue_failure, read_failure};
-ghost use Rattle.shows.specs.Texts.{why_text, refused_text, answer_text};
+ghost use Rattle.shows.specs.Texts.{why_text, refused_text, word_told, answer_text};
 ghost use Rattle.shows.specs.declared.answers.Refused.TheVariants.{Value, Cannot};
 ghost use Rattle.shows.specs.declared.answers.PlayError.TheVariants.{Refused as IsRefused, Memory};
 
@@ -52,6 +52,20 @@ pub enum Refused<'a> {
     Issue(NotIssued),
     NotInShow(u64),
     Cannot(Why),
+}
+
+impl<'a> Refused<'a> {
+    // The word that it tells, which may be as long as a line; no bytes where it tells none.
+    pub(crate) fn word(self) -> &'a [u8]
+        ensures { result.now ≡ word_told self.entry }
+    {
+        match self {
+            Refused::Unreadable(Reason::UnknownWord(word)) => word,
+            Refused::Unreadable(Reason::NoNumber(word)) => word,
+            Refused::Unreadable(Reason::NoHexadecimal(word)) => word,
+            _ => &[],
+        }
+    }
 }
 
 impl<'a> fmt::Display for Refused<'a> {

@@ -158,14 +158,18 @@ fn come_to<'a>(
     carry_out(show, &read(text, heap)?, heap)
 }
 
-// How much room a reply is given to begin with: enough for most, so that it is not moved at each piece of its text.
+// Enough room for most replies, but for the word that a refusal tells.
 const COMMON: usize = 128;
 
-// What a value prints, as a text.
-fn printed<D: fmt::Display + Drop>(value: D, heap: Global) -> Result<String, AllocError>
+// What a value prints, as a text that is given so much room at once: one that grows by pieces is moved at many of them, and leaves memory in pieces behind.
+fn printed<D: fmt::Display + Drop>(
+    value: D,
+    room: usize,
+    heap: Global,
+) -> Result<String, AllocError>
     ensures { IfOk result (λ text. IfSome (D.output value) (λ bytes. string_bytes text ≡ bytes)) }
 {
-    let mut text = String::with_capacity(heap, COMMON)?;
+    let mut text = String::with_capacity(heap, room)?;
     text.write(value)?;
     Ok(text)
 }
@@ -181,8 +185,11 @@ pub fn play_line(
 {
     match come_to(show, text, heap) {
         Ok(Answer::Nothing) => Ok(String::new(heap)),
-        Ok(answer) => printed(answer, heap),
-        Err(PlayError::Refused(refused)) => printed(format_args!("line {line}: {refused}\n"), heap),
+        Ok(answer) => printed(answer, COMMON, heap),
+        Err(PlayError::Refused(refused)) => {
+            let room = COMMON + refused.word().len();
+            printed(format_args!("line {line}: {refused}\n"), room, heap)
+        }
         Err(PlayError::Memory(error)) => Err(error),
     }
 }
