@@ -44,7 +44,7 @@ impl<'a> fmt::Display for Levels<'a> {
                 channel,
                 level: *level,
             };
-            write!(f, "{at}")?;
+            at.fmt(f)?;
         }
         Ok(())
     }
