@@ -1,5 +1,5 @@
 -- The text of the reasons why a line cannot be read. Assumes nothing.
-use Rattle.std.specs.Prelude.{ℕ, cond, ◌&&◌, List, [], ◌++◌, map, Some, None, codes, Option, nat_le}
+use Rattle.std.specs.Prelude.{◌≡◌, ℕ, cond, ◌&&◌, List, [], ◌++◌, map, length, take, Some, None, Ok, Err, codes, Option, Result, nat_le}
 use Rattle.reading.specs.Answer.{Why, unknown_word, missing_word, no_number, missing_number, too_many_words, odd_hexadecimal, no_hexadecimal}
 
 -- a byte that prints, or `?`
@@ -39,3 +39,8 @@ quoted_if (Some w) = in_quotes w
 -- the reason as it is printed: `what`, or `what 'word'`
 unfoldable pub text_of : Why → List ℕ
 text_of w = what_of w ++ quoted_if (word_of w)
+
+-- `was` has become `is`: with the whole text behind it, or where memory failed with some bytes behind it
+abbrev pub Appended : {E : Type 0} → List ℕ → List ℕ → Result (Unit {0}) E → List ℕ → Type 0
+Appended was text (Ok _) is = is ≡ was ++ text
+Appended was text (Err _) is = take (length was) is ≡ was
